@@ -1,0 +1,95 @@
+-- Sentence 1: the tolerant either-version reader accepts just the images of the two writers. Assumes nothing.
+use mathlib.Core.Path.{_≡_, refl, sym, ap, _∙_}
+use mathlib.Core.Bool.{true, false}
+use mathlib.Core.List.{List, [], _∷_, _++_}
+use Prim.Native.Nat.{ℕ, _+_, _*_, _-_, _≤_, _<_}
+use native.Mathlib.Omega.{arith}
+use lib.ListN.{length, drop, length-append, length-drop}
+use Rattle.format.specs.Read.{Answer, accepted, refused, answer, success, operation}
+use Rattle.format.specs.Serialize.{Bytes}
+use Rattle.format.specs.Fields.{Fields, HeaderBody, fields-of}
+use Rattle.format.specs.Context.{Form, tolerant}
+use Rattle.format.specs.Keys.{Max}
+use Rattle.format.specs.Body.{Request, either, request, read-body, read-header-body, image}
+use Rattle.format.specs.Refusals.{Refusal, body-refusals}
+use Rattle.format.specs.Demand3.{Stands, Gives, Sentence1}
+use Rattle.format.proofs.Tests.{leb-is, is-leb}
+use Rattle.format.proofs.Exact.{Took}
+use Rattle.format.proofs.Body.{Sent, BodyOk, sent-bytes, body-at, body-exact, fields-at}
+use Rattle.format.proofs.Accepts.{Good, good, accepts}
+use Rattle.format.proofs.Messages.{accepted-took, operation-here, operation-long}
+use Rattle.format.proofs.Held.{body-held}
+use Rattle.format.proofs.Listed.{refusals}
+
+module _ (max : Max) (pairRoom keyRoom : ℕ) (m : List ℕ) (s : ℕ) where
+  abbrev q : Request
+  q = request either tolerant true max pairRoom keyRoom
+
+  abbrev said : Answer HeaderBody
+  said = operation (read-header-body either tolerant max pairRoom keyRoom) m s
+
+  only : Bytes m → (b : HeaderBody) (t : ℕ) → said ≡ accepted b t
+      → (form : Form) × (f : Fields) × Stands max pairRoom keyRoom m s form f × Gives m b f × (t ≡ s + length (image form f))
+  unfolding read-header-body
+  only hb b t e =
+      let (l, x) = accepted-took (body-exact q) m s hb b t e in
+      let v : Sent = x .value in
+      let g : BodyOk q v = x .good in (
+        v .form,
+        v .fields,
+        record {
+          accepts = accepts (v .fields) (record { top = g .top; few-pairs = g .context .few; pairs = g .context .each; few-keys = g .keys .few; keys = g .keys .each; end = g .end; t20 = g .t20 });
+          after = l;
+          bytes = x .split;
+          pairs-held = is-leb _ _ (g .t22);
+          keys-held = is-leb _ _ (g .t23);
+          max-not-passed = g .keys .below;
+        },
+        record { fields = ap fields-of (x .placed) ∙ fields-at s v; placed = rw (x .placed) (body-held m q s v g (record { after = l; is = x .split })) },
+        x .tail,
+      )
+
+  -- an image is not empty, so it starts within the message
+  start-fits : length m ≤ 4294967295 → (form : Form) (f : Fields) (after : List ℕ) → drop s m ≡ image form f ++ after → s ≤ 4294967295
+  unfolding image
+  start-fits fits form f after e = let d : length m - s ≡ length (image form f ++ after) = sym (length-drop s m) ∙ ap length e in omega arith
+
+  pub all : length m ≤ 4294967295 → (form : Form) (f : Fields) → Stands max pairRoom keyRoom m s form f
+      → (b : HeaderBody) × (said ≡ accepted b (s + length (image form f))) × Gives m b f
+  unfolding read-header-body
+  all fits form f h =
+      let x : Sent = record { form = form; fields = f } in
+      let g : Good f = good f (h .accepts) in
+      let ok : BodyOk q x =
+      record {
+        top = g .top;
+        context = record { allowed = tt; few = g .few-pairs; each = g .pairs };
+        keys = record { few = g .few-keys; below = h .max-not-passed; each = g .keys };
+        end = g .end;
+        t20 = g .t20;
+        t22 = leb-is _ _ (h .pairs-held);
+        t23 = leb-is _ _ (h .keys-held);
+      } in
+      let e : read-body q (image form f ++ h .after) s ≡ success (body-at s x) (h .after) (s + length (image form f)) = body-exact q .complete x s (h .after) ok in (
+        body-at s x,
+        rw (operation-here (read-body q) m s fits (start-fits fits form f (h .after) (h .bytes)), h .bytes, e) refl,
+        record { fields = fields-at s x; placed = body-held m q s x ok (record { after = h .after; is = h .bytes }) },
+      )
+
+  otherwise : Bytes m → ((form : Form) (f : Fields) → Stands max pairRoom keyRoom m s form f → ⊥)
+      → (k : ℕ) × (p : ℕ) × (said ≡ refused k p) × Refusal body-refusals m k p
+  unfolding read-header-body
+  otherwise hb none = go said refl
+    where
+      go : (a : Answer HeaderBody) → said ≡ a → (k : ℕ) × (p : ℕ) × (said ≡ refused k p) × Refusal body-refusals m k p
+      go (accepted b t) e = let z = only hb b t e in absurd (none (z .0) (z .1) (z .2))
+      go (refused k p) e = (k, p, e, refusals .of-body q m s k p e)
+
+  pub sentence-1 : Bytes m → Sentence1 max pairRoom keyRoom m s
+  sentence-1 hb =
+      record {
+        only = λ fits b t e. only hb b t e;
+        all = all;
+        otherwise = λ fits none. otherwise hb none;
+        longer = λ h. operation-long (read-header-body either tolerant max pairRoom keyRoom) m s h;
+      }

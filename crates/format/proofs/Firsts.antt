@@ -1,0 +1,41 @@
+-- The first refusal of a list of checks: there is none just where every check passes. Assumes nothing.
+use mathlib.Core.Path.{_≡_, refl, sym, ap, _∙_}
+use mathlib.Core.Bool.{Bool, true, false, _&&_}
+use mathlib.Core.Option.{Option, none, some}
+use mathlib.Core.List.{List, [], _∷_, _++_, append-assoc}
+use Prim.Native.Nat.{ℕ}
+use native.Mathlib.Omega.{arith}
+use Rattle.format.specs.Checks.{Check, check, first}
+
+abbrev pub Holds : List Check → Type 0
+Holds [] = Unit {0}
+Holds (c ∷ cs) = (c .passes ≡ true) × Holds cs
+
+pub holds : (cs : List Check) → first cs ≡ none → Holds cs
+unfolding first
+holds [] e = tt
+holds (c ∷ cs) e = go (c .passes) refl e (holds cs)
+  where
+    go : (b : Bool) → c .passes ≡ b → _≡_ {A = Option ℕ} (elim b as (λ x. Option ℕ) [ true ↦ first cs | false ↦ some (c .number) ]) none → (first cs ≡ none → Holds cs) → (c .passes ≡ true) × Holds cs
+    go true h e k = (h, k e)
+    go false h e k = let z : _≡_ {A = ℕ} 0 1 = cc in absurd (omega arith)
+
+pub unheld : (cs : List Check) → Holds cs → first cs ≡ none
+unfolding first
+unheld [] h = refl
+unheld (c ∷ cs) (e, h) = rw (e, first) (unheld cs h)
+
+pub split : (xs ys : List Check) → Holds (xs ++ ys) → Holds xs × Holds ys
+split [] ys h = (tt, h)
+split (x ∷ xs) ys (e, h) = let z = split xs ys h in ((e, z .0), z .1)
+
+pub join : (xs ys : List Check) → Holds xs → Holds ys → Holds (xs ++ ys)
+join [] ys h k = k
+join (x ∷ xs) ys (e, h) k = (e, join xs ys h k)
+
+pub both : (a b : Bool) → (a && b) ≡ true → (a ≡ true) × (b ≡ true)
+both true b e = (refl, e)
+both false b e = let z : _≡_ {A = ℕ} 0 1 = cc in absurd (omega arith)
+
+pub and : {a b : Bool} → a ≡ true → b ≡ true → (a && b) ≡ true
+and e f = rw (e, f) refl

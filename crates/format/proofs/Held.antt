@@ -1,0 +1,120 @@
+-- What a reader gives stands at the places that it gives. Assumes nothing.
+use mathlib.Core.Path.{_≡_, refl, sym, ap, _∙_}
+use mathlib.Core.Bool.{Bool, true, false, cond}
+use mathlib.Core.List.{List, [], _∷_, _++_, append-assoc}
+use Prim.Native.Nat.{ℕ, _+_}
+use native.Mathlib.Nat.{add-assoc}
+use lib.Dec.{eqb}
+use lib.ListN.{length, take, drop}
+use lib.Seq.{drop-drop, take-append-seam, drop-append-seam}
+use Rattle.format.specs.Serialize.{Part, write-uint16, write-uint32, write-short-length-seq, images}
+use Rattle.format.specs.Fields.{Pair, EncryptedDataKey, HeaderBody, pair-places, key-places}
+use Rattle.format.specs.Context.{Form, today, old, linear-length, write-aad-pair, write-aad-pairs, write-aad, write-expanded-aad-section, write-aad-section, section-in}
+use Rattle.format.specs.Keys.{write-encrypted-data-key, write-encrypted-data-keys, write-encrypted-data-keys-section}
+use Rattle.format.specs.Body.{Request, write-opening-of, write-closing-of, image}
+use Rattle.format.specs.Lent.{bytes-at}
+use Rattle.format.specs.Demand3.{Held, Each, HeldBody}
+use Rattle.format.proofs.Exact.{puts}
+use Rattle.format.proofs.Serialize.{part-at, entry-at, length-uint16, length-uint32}
+use Rattle.format.proofs.Context.{pair-at, context-bytes}
+use Rattle.format.proofs.Keys.{key-at, keys-at}
+use Rattle.format.proofs.Ends.{top-bytes, End, EndOk, end-bytes, no-bytes}
+use Rattle.format.proofs.Body.{Sent, BodyOk, top-of, context-of, end-of, sent-bytes, body-at}
+
+-- the bytes b stand at s of the message
+pub record Here (m : List ℕ) (s : ℕ) (b : List ℕ) : Type 0 where
+  pub after : List ℕ
+  pub is : drop s m ≡ b ++ after
+
+module _ (m : List ℕ) where
+  left : (s : ℕ) (b c : List ℕ) → Here m s (b ++ c) → Here m s b
+  left s b c h = record { after = c ++ h .after; is = h .is ∙ append-assoc b c (h .after) }
+
+  right : (s : ℕ) (b c : List ℕ) → Here m s (b ++ c) → Here m (s + length b) c
+  right s b c h = record { after = h .after; is = sym (drop-drop (length b) s m) ∙ rw (h .is, append-assoc b c (h .after)) (drop-append-seam b (c ++ h .after)) }
+
+  held : (s : ℕ) (b : List ℕ) → Here m s b → bytes-at m s (length b) ≡ b
+  held s b h = rw (h .is) (take-append-seam b (h .after))
+
+  entry-held : (s : ℕ) (bytes : List ℕ) → Here m s (write-short-length-seq bytes) → Held m (entry-at s bytes)
+  unfolding write-short-length-seq
+  entry-held s bytes h = held (s + 2) bytes (rw length-uint16 at (right s (write-uint16 (length bytes)) bytes h))
+
+  pairs-held : (ps : List Pair) (s : ℕ) → Here m s (images write-aad-pair ps) → Each (Held m) (images pair-places (puts write-aad-pair pair-at s ps))
+  unfolding images puts write-aad-pair
+  pairs-held [] s h = tt
+  pairs-held (p ∷ ps) s h =
+      let k = write-short-length-seq (p .key) in
+      let v = write-short-length-seq (p .value) in
+      let x = left s (k ++ v) (images write-aad-pair ps) h in
+      (entry-held s (p .key) (left s k v x), (entry-held (s + length k) (p .value) (right s k v x), pairs-held ps (s + length (k ++ v)) (right s (k ++ v) (images write-aad-pair ps) h)))
+
+  after-two-numbers : (s x y : ℕ) (b : List ℕ) → Here m s (write-uint16 x ++ (write-uint16 y ++ b)) → Here m (s + 4) b
+  after-two-numbers s x y b h =
+      let z : Here m (s + 2) (write-uint16 y ++ b) = rw length-uint16 at (right s (write-uint16 x) (write-uint16 y ++ b) h) in
+      rw (length-uint16, add-assoc s 2 2) at (right (s + 2) (write-uint16 y) b z)
+
+  expanded-held : (ps : List Pair) (s : ℕ) → Here m s (write-expanded-aad-section ps) → Each (Held m) (images pair-places (puts write-aad-pair pair-at (s + 4) ps))
+  unfolding write-expanded-aad-section write-aad write-aad-pairs
+  expanded-held ps s h = pairs-held ps (s + 4) (after-two-numbers s (2 + linear-length ps) (length ps) (images write-aad-pair ps) h)
+
+  pub context-held : (form : Form) (ps : List Pair) (s : ℕ) → Here m s (section-in form ps) → Each (Held m) (images pair-places (puts write-aad-pair pair-at (s + 4) ps))
+  unfolding write-aad-section puts images
+  context-held today [] s h = tt
+  context-held today (p ∷ ps) s h = expanded-held (p ∷ ps) s h
+  context-held old ps s h = expanded-held ps s h
+
+  each-key-held : (ks : List EncryptedDataKey) (s : ℕ) → Here m s (images write-encrypted-data-key ks) → Each (Held m) (images key-places (puts write-encrypted-data-key key-at s ks))
+  unfolding images puts write-encrypted-data-key
+  each-key-held [] s h = tt
+  each-key-held (k ∷ ks) s h =
+      let p = write-short-length-seq (k .keyProviderId) in
+      let i = write-short-length-seq (k .keyProviderInfo) in
+      let c = write-short-length-seq (k .ciphertext) in
+      let x = left s (p ++ (i ++ c)) (images write-encrypted-data-key ks) h in
+      let y = right s p (i ++ c) x in (
+        entry-held s (k .keyProviderId) (left s p (i ++ c) x),
+        (
+          entry-held (s + length p) (k .keyProviderInfo) (left (s + length p) i c y),
+          (
+            entry-held (s + length p + length i) (k .ciphertext) (right (s + length p) i c y),
+            each-key-held ks (s + length (p ++ (i ++ c))) (right s (p ++ (i ++ c)) (images write-encrypted-data-key ks) h),
+          ),
+        ),
+      )
+
+  pub keys-held : (ks : List EncryptedDataKey) (s : ℕ) → Here m s (write-encrypted-data-keys-section ks) → Each (Held m) (images key-places (keys-at s ks))
+  unfolding write-encrypted-data-keys-section write-encrypted-data-keys
+  keys-held ks s h = each-key-held ks (s + 2) (rw length-uint16 at (right s (write-uint16 (length ks)) (images write-encrypted-data-key ks) h))
+
+  id-held : (v1 : Bool) (s type suite : ℕ) (id : List ℕ) → Here m s (write-opening-of v1 type suite id) → Held m (part-at (s + cond v1 3 2) id)
+  unfolding write-opening-of
+  id-held true s type suite id h =
+      let x = right s (type ∷ []) (write-uint16 suite ++ id) h in
+      held (s + 3) id (rw (length-uint16, add-assoc s 1 2) at (right (s + 1) (write-uint16 suite) id x))
+  id-held false s type suite id h = held (s + 2) id (rw length-uint16 at (right s (write-uint16 suite) id h))
+
+  suite-data-held : (v1 : Bool) (s : ℕ) (e : End) → EndOk v1 e → Here m s (end-bytes v1 e) → Held m (part-at (cond v1 0 (s + 5)) (e .suiteData))
+  unfolding write-closing-of
+  suite-data-held true s e o h = rw (no-bytes (e .suiteData) (o .sized)) refl
+  suite-data-held false s e o h =
+      let x = right s (e .contentType ∷ []) (write-uint32 (e .frameLength) ++ e .suiteData) h in
+      held (s + 5) (e .suiteData) (rw (length-uint32, add-assoc s 1 4) at (right (s + 1) (write-uint32 (e .frameLength)) (e .suiteData) x))
+
+  pub body-held : (q : Request) (s : ℕ) (x : Sent) → BodyOk q x → Here m s (sent-bytes x) → HeldBody m (body-at s x)
+  unfolding image
+  body-held q s x o h =
+      let f = x .fields in
+      let tb = top-bytes (top-of f) in
+      let cb = context-bytes (context-of x) in
+      let kb = write-encrypted-data-keys-section (f .keys) in
+      let eb = end-bytes (eqb (f .version) 1) (end-of f) in
+      let a = right s tb (cb ++ (kb ++ eb)) h in
+      let b = right (s + length tb) cb (kb ++ eb) a in
+      record {
+        messageId = id-held (eqb (f .version) 1) (s + 1) (f .messageType) (f .suite) (f .messageId)
+            (right s (f .version ∷ []) (write-opening-of (eqb (f .version) 1) (f .messageType) (f .suite) (f .messageId)) (left s tb (cb ++ (kb ++ eb)) h));
+        pairs = context-held (x .form) (f .pairs) (s + length tb) (left (s + length tb) cb (kb ++ eb) a);
+        keys = keys-held (f .keys) (s + length tb + length cb) (left (s + length tb + length cb) kb eb b);
+        suiteData = suite-data-held (eqb (f .version) 1) (s + length tb + length cb + length kb) (end-of f) (o .end) (right (s + length tb + length cb) kb eb b);
+      }

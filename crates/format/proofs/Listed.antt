@@ -1,0 +1,283 @@
+-- Which refusals a reader can answer: the numbers of its tests, in their order. Assumes nothing.
+use mathlib.Core.Path.{_≡_, refl, sym, ap, _∙_}
+use mathlib.Core.Bool.{Bool, true, false, not, _&&_, _||_}
+use mathlib.Core.Logic.{⊎-elim}
+use mathlib.Core.List.{List, [], _∷_, _++_, List·Memᴰ, List·Memᴰ·head, List·Memᴰ·tail, List·Memᴰ·not-nil, List·Memᴰ·cases-cons, List·Memᴰ·append-cases, Memᴰ·append-left, Memᴰ·append-right}
+use Prim.Native.Nat.{ℕ, zero, suc, _+_, _-_, _≤_, _<_}
+use native.Mathlib.Omega.{arith}
+use lib.Dec.{leb, eqb}
+use lib.ListN.{length, take, drop, length-drop}
+use Rattle.format.specs.Read.{ReadResult, success, more-needed, error, Reader, go-on, _>>=_, _>>_, return, test, repeat, framed, Answer, accepted, refused, answer, operation}
+use Rattle.format.specs.Serialize.{Part, read, read-uint, read-uint8, read-uint16, read-uint32, read-short-length-seq, same-bytes}
+use Rattle.format.specs.Shared.{read-message-format-version, read-esdk-suite-id, read-content-type}
+use Rattle.format.specs.Fields.{PairAt}
+use Rattle.format.specs.Context.{Mode, tolerant, read-text, read-aad-pair, read-next-aad-pair, read-aad, read-aad-of, read-aad-section, read-aad-section-into, look-up, find-value}
+use Rattle.format.specs.Keys.{Max, read-encrypted-data-key, read-encrypted-data-keys-section, read-encrypted-data-keys-section-into}
+use Rattle.format.specs.Body.{Which, read-opening-of, read-opening, read-closing-of, read-closing, Opening, Request, after-context, after-opening, read-body}
+use Rattle.format.specs.Auth.{read-header-auth-tag-of, read-header-auth-tag}
+use Rattle.format.specs.Refusals.{context-refusals, find-refusals, keys-refusals, body-refusals, auth-refusals, Refusal, RefusesBy, Refusals}
+use Rattle.format.proofs.Tests.{is-leb, is-nleb, eqb-is}
+use Rattle.format.proofs.Exact.{framed-fits, framed-short}
+use Rattle.format.proofs.Serialize.{read-fits, read-short}
+use Rattle.format.proofs.Firsts.{both}
+use Rattle.format.proofs.Messages.{cases}
+
+-- of a reader that had the bytes up to the place n: where it succeeds those behind its tail are left, what it wants lies
+-- beyond n, and any other refusal is of the list
+abbrev pub Fine : {A : Type 0} → List ℕ → ℕ → ReadResult A → Type 0
+Fine ks n (success a l t) = t + length l ≡ n
+Fine ks n (more-needed p) = n < p
+Fine ks n (error k) = List·Memᴰ k ks
+
+pub record Listed {A : Type 0} (ks : List ℕ) (r : Reader A) : Type 0 where
+  pub fine : (l : List ℕ) (s : ℕ) → Fine ks (s + length l) (r l s)
+
+module _ {A : Type 0} where
+  more : (ks js : List ℕ) → ((k : ℕ) → List·Memᴰ k ks → List·Memᴰ k js) → (n : ℕ) (x : ReadResult A) → Fine ks n x → Fine js n x
+  more ks js f n (success a l t) h = h
+  more ks js f n (more-needed p) h = h
+  more ks js f n (error k) h = f k h
+
+  pub also : (j : ℕ) {ks : List ℕ} {r : Reader A} → Listed ks r → Listed (j ∷ ks) r
+  also j {ks} {r} h = record { fine = λ l s. more ks (j ∷ ks) (λ k z. List·Memᴰ·tail z) (s + length l) (r l s) (h .fine l s) }
+
+module _ {A B : Type 0} where
+  goes-on : (ks js : List ℕ) (f : A → Reader B) → ((a : A) → Listed js (f a)) → (n : ℕ) (x : ReadResult A) → Fine ks n x → Fine (ks ++ js) n (go-on x f)
+  goes-on ks js f hf n (success a l t) h = more js (ks ++ js) (λ k z. Memᴰ·append-right ks z) n (f a l t) (rw h at (hf a .fine l t))
+  goes-on ks js f hf n (more-needed p) h = h
+  goes-on ks js f hf n (error k) h = Memᴰ·append-left js h
+
+  pub bind-listed : {ks js : List ℕ} {r : Reader A} {f : A → Reader B} → Listed ks r → ((a : A) → Listed js (f a)) → Listed (ks ++ js) (r >>= f)
+  unfolding _>>=_
+  bind-listed {ks} {js} {r} {f} hr hf = record { fine = λ l s. goes-on ks js f hf (s + length l) (r l s) (hr .fine l s) }
+
+  pub then-listed : {ks js : List ℕ} {r : Reader A} {q : Reader B} → Listed ks r → Listed js q → Listed (ks ++ js) (r >> q)
+  unfolding _>>_
+  then-listed {ks} {js} {r} {q} hr hq = record { fine = λ l s. goes-on ks js (λ a. q) (λ a. hq) (s + length l) (r l s) (hr .fine l s) }
+
+pub return-listed : {A : Type 0} (a : A) → Listed [] (return a)
+unfolding return
+return-listed a = record { fine = λ l s. refl }
+
+pub test-listed : (k : ℕ) (b : Bool) → Listed (k ∷ []) (test k b)
+unfolding test
+test-listed k true = record { fine = λ l s. refl }
+test-listed k false = record { fine = λ l s. List·Memᴰ·head refl }
+
+pub read-listed : (n : ℕ) → Listed [] (read n)
+read-listed n = record { fine = λ l s. go l s (leb n (length l)) refl }
+  where
+    go : (l : List ℕ) (s : ℕ) (b : Bool) → leb n (length l) ≡ b → Fine [] (s + length l) (read n l s)
+    go l s true e = let h : n ≤ length l = is-leb _ _ e in rw (read-fits n l s h) (simp length-drop (omega arith))
+    go l s false e = let h : length l < n = is-nleb _ _ e in rw (read-short n l s h) (omega arith)
+
+module _ {A : Type 0} where
+  -- a list of refusals behind itself
+  once : (ks : List ℕ) (n : ℕ) (x : ReadResult A) → Fine (ks ++ ks) n x → Fine ks n x
+  once ks n x h = more (ks ++ ks) ks (λ k z. ⊎-elim (λ w. w) (λ w. w) (List·Memᴰ·append-cases ks z)) n x h
+
+module _ {A : Type 0} where
+  pub repeat-listed : (n : ℕ) {ks : List ℕ} {step : List A → Reader A} → ((acc : List A) → Listed ks (step acc)) → (acc : List A) → Listed ks (repeat n step acc)
+  unfolding repeat return
+  repeat-listed zero h acc = record { fine = λ l s. refl }
+  repeat-listed (suc n) {ks} {step} h acc =
+      record { fine = λ l s. once ks (s + length l) (repeat (suc n) step acc l s) (bind-listed (h acc) (λ a. repeat-listed n h (acc ++ (a ∷ []))) .fine l s) }
+
+  end-listed : (s n k : ℕ) (a : A) → Listed (k ∷ []) (λ l′ t. go-on (test k (eqb t (s + n)) l′ t) (λ u. return a))
+  unfolding test return
+  end-listed s n k a = record { fine = λ l t. go (eqb t (s + n)) l t }
+    where
+      go : (b : Bool) (l : List ℕ) (t : ℕ) → Fine (k ∷ []) (t + length l) (go-on (test k b l t) (λ u. return a))
+      go true l t = refl
+      go false l t = List·Memᴰ·head refl
+
+  pub framed-listed : (n k : ℕ) {ks : List ℕ} {r : Reader A} → Listed ks r → Listed (ks ++ (k ∷ [])) (framed n k r)
+  framed-listed n k {ks} {r} hr = record { fine = λ l s. go l s (leb n (length l)) refl }
+    where
+      go : (l : List ℕ) (s : ℕ) (b : Bool) → leb n (length l) ≡ b → Fine (ks ++ (k ∷ [])) (s + length l) (framed n k r l s)
+      go l s true e = rw (framed-fits n k r l s (is-leb _ _ e)) (bind-listed hr (end-listed s n k) .fine l s)
+      go l s false e = let h : length l < n = is-nleb _ _ e in rw (framed-short n k r l s h) (omega arith)
+
+-- the leaves
+uint-listed : (width : ℕ) → Listed [] (read-uint width)
+unfolding read-uint
+uint-listed width = bind-listed (read-listed width) (λ p. return-listed _)
+
+uint8-listed : Listed [] read-uint8
+unfolding read-uint8
+uint8-listed = uint-listed 1
+
+uint16-listed : Listed [] read-uint16
+unfolding read-uint16
+uint16-listed = uint-listed 2
+
+uint32-listed : Listed [] read-uint32
+unfolding read-uint32
+uint32-listed = uint-listed 4
+
+entry-listed : Listed [] read-short-length-seq
+unfolding read-short-length-seq
+entry-listed = bind-listed uint16-listed read-listed
+
+text-listed : (k : ℕ) → Listed (k ∷ []) (read-text k)
+unfolding read-text
+text-listed k = bind-listed entry-listed (λ e. then-listed (test-listed k _) (return-listed _))
+
+-- the context section
+pair-listed : Listed (10 ∷ 11 ∷ []) read-aad-pair
+unfolding read-aad-pair
+pair-listed = bind-listed (text-listed 10) (λ k. bind-listed (text-listed 11) (λ v. return-listed _))
+
+next-listed : (acc : List PairAt) → Listed (10 ∷ 11 ∷ 12 ∷ 13 ∷ []) (read-next-aad-pair acc)
+unfolding read-next-aad-pair
+next-listed acc = bind-listed pair-listed (λ p. then-listed (test-listed 12 _) (then-listed (test-listed 13 _) (return-listed _)))
+
+aad-listed : (mode : Mode) (n : ℕ) → Listed (8 ∷ 21 ∷ 9 ∷ 10 ∷ 11 ∷ 12 ∷ 13 ∷ []) (read-aad mode n)
+unfolding read-aad
+aad-listed mode n =
+    bind-listed uint16-listed (λ count. then-listed (test-listed 8 _) (then-listed (test-listed 21 _) (then-listed (test-listed 9 _) (repeat-listed count next-listed []))))
+
+of-listed : (mode : Mode) (b : Bool) (n : ℕ) → Listed (8 ∷ 21 ∷ 9 ∷ 10 ∷ 11 ∷ 12 ∷ 13 ∷ 14 ∷ []) (read-aad-of mode b n)
+unfolding read-aad-of return
+of-listed mode true n = record { fine = λ l s. refl }
+of-listed mode false n = framed-listed n 14 (aad-listed mode n)
+
+section-listed : (mode : Mode) → Listed (8 ∷ 21 ∷ 9 ∷ 10 ∷ 11 ∷ 12 ∷ 13 ∷ 14 ∷ []) (read-aad-section mode)
+unfolding read-aad-section
+section-listed mode = bind-listed uint16-listed (λ n. of-listed mode (eqb n 0) n)
+
+section-into-listed : (mode : Mode) (room : ℕ) → Listed (8 ∷ 21 ∷ 9 ∷ 10 ∷ 11 ∷ 12 ∷ 13 ∷ 14 ∷ 22 ∷ []) (read-aad-section-into mode room)
+unfolding read-aad-section-into
+section-into-listed mode room = bind-listed (section-listed mode) (λ ps. then-listed (test-listed 22 _) (return-listed _))
+
+look-listed : (k : List ℕ) (ps : List PairAt) → Listed (29 ∷ []) (look-up k ps)
+unfolding look-up
+look-listed k [] = record { fine = λ l s. List·Memᴰ·head refl }
+look-listed k (p ∷ ps) = record { fine = λ l s. go l s (same-bytes k (p .key .bytes)) (look-listed k ps .fine l s) }
+  where
+    go : (l : List ℕ) (s : ℕ) (b : Bool) → Fine (29 ∷ []) (s + length l) (look-up k ps l s)
+        → Fine {A = Part} (29 ∷ []) (s + length l) (elim b as (λ x. ReadResult Part) [ true ↦ success (p .value) l s | false ↦ look-up k ps l s ])
+    go l s true h = refl
+    go l s false h = h
+
+find-listed : (k : List ℕ) → Listed (8 ∷ 21 ∷ 9 ∷ 10 ∷ 11 ∷ 12 ∷ 13 ∷ 14 ∷ 29 ∷ []) (find-value k)
+unfolding find-value
+find-listed k = bind-listed (section-listed tolerant) (look-listed k)
+
+-- the key section
+key-listed : Listed (16 ∷ []) read-encrypted-data-key
+unfolding read-encrypted-data-key
+key-listed = bind-listed (text-listed 16) (λ p. bind-listed entry-listed (λ i. bind-listed entry-listed (λ c. return-listed _)))
+
+keys-listed : (max : Max) → Listed (15 ∷ 16 ∷ []) (read-encrypted-data-keys-section max)
+unfolding read-encrypted-data-keys-section
+keys-listed max = bind-listed uint16-listed (λ count. then-listed (test-listed 15 _) (repeat-listed count (λ acc. key-listed) []))
+
+keys-into-listed : (max : Max) (room : ℕ) → Listed (15 ∷ 16 ∷ 23 ∷ []) (read-encrypted-data-keys-section-into max room)
+unfolding read-encrypted-data-keys-section-into
+keys-into-listed max room = bind-listed (keys-listed max) (λ ks. then-listed (test-listed 23 _) (return-listed _))
+
+-- a body
+suite-listed : (version : ℕ) → Listed (6 ∷ 7 ∷ []) (read-esdk-suite-id version)
+unfolding read-esdk-suite-id
+suite-listed version = bind-listed uint16-listed (λ x. then-listed (test-listed 6 _) (then-listed (test-listed 7 _) (return-listed _)))
+
+rest-listed : (v1 : Bool) → Listed (5 ∷ 6 ∷ 7 ∷ []) (read-opening-of v1)
+unfolding read-opening-of
+rest-listed true = bind-listed uint8-listed (λ t. then-listed (test-listed 5 _) (bind-listed (suite-listed 1) (λ x. bind-listed (read-listed 16) (λ id. return-listed _))))
+rest-listed false = also 5 (bind-listed (suite-listed 2) (λ x. bind-listed (read-listed 32) (λ id. return-listed _)))
+
+version-listed : Listed (3 ∷ []) read-message-format-version
+unfolding read-message-format-version
+version-listed = bind-listed uint8-listed (λ v. then-listed (test-listed 3 _) (return-listed _))
+
+opening-listed : (which : Which) → Listed (3 ∷ 4 ∷ 5 ∷ 6 ∷ 7 ∷ []) (read-opening which)
+unfolding read-opening
+opening-listed which = bind-listed version-listed (λ v. then-listed (test-listed 4 _) (rest-listed (eqb v 1)))
+
+content-listed : Listed (17 ∷ []) read-content-type
+unfolding read-content-type
+content-listed = bind-listed uint8-listed (λ v. then-listed (test-listed 17 _) (return-listed _))
+
+closing-of-listed : (v1 : Bool) (content : ℕ) → Listed (18 ∷ 19 ∷ []) (read-closing-of v1 content)
+unfolding read-closing-of
+closing-of-listed true content =
+    bind-listed uint32-listed (λ r. then-listed (test-listed 18 _) (bind-listed uint8-listed (λ i. then-listed (test-listed 19 _) (bind-listed uint32-listed (λ f. return-listed _)))))
+closing-of-listed false content = also 18 (also 19 (bind-listed uint32-listed (λ f. bind-listed (read-listed 32) (λ x. return-listed _))))
+
+closing-listed : (v1 : Bool) → Listed (17 ∷ 18 ∷ 19 ∷ []) (read-closing v1)
+unfolding read-closing
+closing-listed v1 = bind-listed content-listed (λ c. closing-of-listed v1 c)
+
+after-context-listed : (q : Request) (o : Opening) (ps : List PairAt) → Listed (15 ∷ 16 ∷ 17 ∷ 18 ∷ 19 ∷ 20 ∷ 22 ∷ 23 ∷ []) (after-context q o ps)
+unfolding after-context
+after-context-listed q o ps =
+    bind-listed (keys-listed (q .max)) (λ ks. bind-listed (closing-listed (eqb (o .version) 1)) (λ c.
+    then-listed (test-listed 20 _) (then-listed (test-listed 22 _) (then-listed (test-listed 23 _) (return-listed _)))))
+
+body-listed : (q : Request) → Listed (3 ∷ 4 ∷ 5 ∷ 6 ∷ 7 ∷ 8 ∷ 21 ∷ 9 ∷ 10 ∷ 11 ∷ 12 ∷ 13 ∷ 14 ∷ 15 ∷ 16 ∷ 17 ∷ 18 ∷ 19 ∷ 20 ∷ 22 ∷ 23 ∷ []) (read-body q)
+unfolding read-body after-opening
+body-listed q = bind-listed (opening-listed (q .which)) (λ o. bind-listed (section-listed (q .mode)) (after-context-listed q o))
+
+-- an authentication record
+auth-of-listed : (v1 : Bool) → Listed [] (read-header-auth-tag-of v1)
+unfolding read-header-auth-tag-of
+auth-of-listed true = bind-listed (read-listed 12) (λ iv. bind-listed (read-listed 16) (λ tag. return-listed _))
+auth-of-listed false = bind-listed (read-listed 16) (λ tag. return-listed _)
+
+auth-listed : (suite : ℕ) → Listed (6 ∷ []) (read-header-auth-tag suite)
+unfolding read-header-auth-tag
+auth-listed suite = then-listed (test-listed 6 _) (auth-of-listed _)
+
+-- as operations, which test 1
+module _ {A : Type 0} (ks : List ℕ) (r : Reader A) (no-two : List·Memᴰ 2 ks → ⊥) (h : Listed ks r) where
+  refuses : RefusesBy (1 ∷ 2 ∷ ks) r
+  refuses m s k p e = cases r m s far near
+    where
+      far : operation r m s ≡ refused 1 0 → Refusal (1 ∷ 2 ∷ ks) m k p
+      far q =
+          let z : _≡_ {A = Answer A} (refused 1 0) (refused k p) = sym q ∙ e in
+          let k1 : 1 ≡ k = cc in
+          let p0 : 0 ≡ p = cc in
+          record { is-listed = List·Memᴰ·head (sym k1); wanted = λ w. absurd (omega arith); otherwise-0 = λ w. sym p0 }
+
+      of : (x : ReadResult A) → Fine ks (s + length (drop s m)) x → answer x ≡ refused k p → Refusal (1 ∷ 2 ∷ ks) m k p
+      of (success a l t) f q = let z : _≡_ {A = ℕ} 0 1 = cc in absurd (omega arith)
+      of (more-needed w) f q =
+          let k2 : 2 ≡ k = cc in
+          let pw : w ≡ p = cc in
+          let d : length (drop s m) ≡ length m - s = length-drop s m in
+          record { is-listed = List·Memᴰ·tail (List·Memᴰ·head (sym k2)); wanted = λ y. omega arith; otherwise-0 = λ y. absurd (y (sym k2)) }
+      of (error j) f q =
+          let kj : j ≡ k = cc in
+          let p0 : 0 ≡ p = cc in
+          let listed : List·Memᴰ k ks = rw kj at f in
+          record { is-listed = List·Memᴰ·tail (List·Memᴰ·tail listed); wanted = λ y. absurd (no-two (rw y at listed)); otherwise-0 = λ y. sym p0 }
+
+      near : length m ≤ 4294967295 → s ≤ 4294967295 → operation r m s ≡ answer (r (drop s m) s) → Refusal (1 ∷ 2 ∷ ks) m k p
+      near a b q = of (r (drop s m) s) (h .fine (drop s m) s) (sym q ∙ e)
+
+-- none of the numbers is 2
+abbrev every-other : List ℕ → Bool
+every-other [] = true
+every-other (k ∷ ks) = not (eqb k 2) && every-other ks
+
+not-in : (ks : List ℕ) → every-other ks ≡ true → List·Memᴰ 2 ks → ⊥
+not-in [] e h = List·Memᴰ·not-nil h
+not-in (k ∷ ks) e h =
+    let z = both (not (eqb k 2)) (every-other ks) e in
+    ⊎-elim (λ q. let w : k ≡ 2 = sym q in let y : eqb k 2 ≡ true = eqb-is k 2 w in no y (z .0)) (not-in ks (z .1)) (List·Memᴰ·cases-cons h)
+  where
+    no : {b : Bool} → b ≡ true → not b ≡ true → ⊥
+    no e f = let z : _≡_ {A = ℕ} 0 1 = cc in omega arith
+
+pub refusals : Refusals
+unfolding context-refusals find-refusals keys-refusals body-refusals auth-refusals
+refusals =
+    record {
+      of-context = λ mode room. refuses _ _ (not-in _ refl) (section-into-listed mode room);
+      of-find = λ k. refuses _ _ (not-in _ refl) (find-listed k);
+      of-keys = λ max room. refuses _ _ (not-in _ refl) (keys-into-listed max room);
+      of-body = λ q. refuses _ _ (not-in _ refl) (body-listed q);
+      of-auth = λ suite. refuses _ _ (not-in _ refl) (auth-listed suite);
+    }

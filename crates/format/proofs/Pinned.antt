@@ -1,0 +1,67 @@
+-- The tests that demand 3 has on both of its sides, each held to its statement. Assumes nothing.
+use mathlib.Core.Path.{_≡_, refl, sym, ap, _∙_}
+use mathlib.Core.Bool.{Bool, true, false, not, _&&_, _||_}
+use mathlib.Core.Logic.{_⊎_, inl, inr, ⊎-elim}
+use mathlib.Core.List.{List}
+use Prim.Native.Nat.{ℕ, zero, suc, _≤_, _<_}
+use native.Mathlib.Omega.{arith}
+use lib.Dec.{eqb}
+use Rattle.format.specs.Shared.{one-or-two, frame-fits}
+use Rattle.format.specs.Serialize.{same-bytes}
+use Rattle.format.specs.Pinned.{Decides, Pinned}
+use Rattle.format.proofs.Tests.{leb-is, is-leb, eqb-is, is-eqb, neqb-is}
+use Rattle.format.proofs.Firsts.{both}
+use Rattle.format.proofs.Grammar.{valid-octets, octets-valid}
+use Rattle.format.proofs.Suites.{in-a-row, row-of, no-third, eleven}
+use Rattle.format.proofs.Context.{length-pairs}
+use Rattle.format.proofs.Find.{same-equal, equal-same, seen-has, has-seen}
+
+or-cases : (a b : Bool) → (a || b) ≡ true → (a ≡ true) ⊎ (b ≡ true)
+or-cases true b e = inl refl
+or-cases false b e = inr e
+
+or-right : (a : Bool) {b : Bool} → b ≡ true → (a || b) ≡ true
+or-right true e = refl
+or-right false e = e
+
+one-two : (x : ℕ) → Decides (one-or-two x) ((x ≡ 1) ⊎ (x ≡ 2))
+one-two x =
+    record {
+      then-holds = λ e. ⊎-elim (λ p. inl (is-eqb x 1 p)) (λ p. inr (is-eqb x 2 p)) (or-cases (eqb x 1) (eqb x 2) e);
+      holds-then = λ h. ⊎-elim (λ p. rw (eqb-is x 1 p) refl) (λ p. or-right (eqb x 1) (eqb-is x 2 p)) h;
+    }
+
+above-zero : (x : ℕ) → not (eqb x 0) ≡ true → 0 < x
+above-zero zero e = let z : _≡_ {A = ℕ} 0 1 = cc in absurd (omega arith)
+above-zero (suc x) e = omega arith
+
+frames : (content frame : ℕ) → Decides (frame-fits content frame) (((content ≡ 1) × (frame ≡ 0)) ⊎ ((content ≡ 2) × (0 < frame)))
+unfolding frame-fits
+frames c f =
+    record {
+      then-holds = λ e.
+          ⊎-elim (λ p. (let z = both (eqb c 1) (eqb f 0) p in inl (is-eqb c 1 (z .0), is-eqb f 0 (z .1))))
+          (λ p. (let z = both (eqb c 2) (not (eqb f 0)) p in inr (is-eqb c 2 (z .0), above-zero f (z .1))))
+          (or-cases (eqb c 1 && eqb f 0) (eqb c 2 && not (eqb f 0)) e);
+      holds-then = λ h.
+          ⊎-elim (λ p. rw (eqb-is c 1 (p .0), eqb-is f 0 (p .1)) refl)
+          (λ p. or-right (eqb c 1 && eqb f 0) (rw (eqb-is c 2 (p .0), neqb-is f 0 (λ z. let y : 0 < f = p .1 in omega arith)) refl))
+          h;
+    }
+
+pub pinned : Pinned
+pinned =
+    record {
+      utf8 = λ bytes. record { then-holds = valid-octets bytes; holds-then = octets-valid };
+      equal = λ a b. record { then-holds = same-equal a b; holds-then = λ e. rw (← e) (equal-same a) };
+      seen-before = λ k ps. record { then-holds = seen-has k ps; holds-then = has-seen k ps };
+      eleven = eleven;
+      in-a-row = in-a-row;
+      row-of = row-of;
+      no-third = no-third;
+      one-two = one-two;
+      frames = frames;
+      maximum = λ n max. record { then-holds = is-leb n max; holds-then = leb-is n max };
+      no-maximum = λ n. refl;
+      pairs-take = length-pairs;
+    }

@@ -1,0 +1,152 @@
+-- Sentence 4: the two images, and what the body writer leaves. Assumes nothing.
+use mathlib.Core.Path.{_≡_, refl, sym, ap, _∙_}
+use mathlib.Core.Bool.{Bool, true, false}
+use mathlib.Core.Option.{Option, none, some}
+use mathlib.Core.List.{List, [], _∷_, _++_, append-assoc, append-nil}
+use Prim.Native.Nat.{ℕ, _+_, _*_, _≤_, _<_}
+use native.Mathlib.Omega.{arith}
+use native.Mathlib.Nat.{zero-add}
+use lib.Dec.{leb, eqb}
+use lib.ListN.{length, drop, length-append, length-drop}
+use Rattle.format.specs.Read.{Answer, accepted, refused, operation}
+use Rattle.format.specs.Serialize.{Bytes, write-uint16, images, sum}
+use Rattle.format.specs.Fields.{Pair, Fields, HeaderBody}
+use Rattle.format.specs.Context.{Form, today, old, tolerant, write-aad, write-aad-pairs, write-aad-section, write-expanded-aad-section, section-in}
+use Rattle.format.specs.Keys.{Max, within, write-encrypted-data-keys-section}
+use Rattle.format.specs.Body.{either, read-header-body, write-opening-of, write-closing-of, image}
+use Rattle.format.specs.Checks.{Check, check, first, opening-checks, closing-checks, pairs-checks, keys-checks, body-checks, Accepts}
+use Rattle.format.specs.Lent.{filled, table-checks, Writing, refusal-of, written-of, written, output-of, output-after, BodyToWrite, fields-to-write, writing-header-body}
+use Rattle.format.specs.Demand3.{Gives, Images, Sentence4}
+use Rattle.format.proofs.Tests.{leb-is, is-leb}
+use Rattle.format.proofs.Firsts.{Holds, holds, unheld, split, join}
+use Rattle.format.proofs.Serialize.{length-uint16}
+use Rattle.format.proofs.Either.{all}
+
+same-section : (ps : List Pair) → (ps ≡ [] → ⊥) → section-in old ps ≡ section-in today ps
+unfolding write-aad-section
+same-section [] h = absurd (h refl)
+same-section (p ∷ ps) h = refl
+
+two-more : length (section-in old []) ≡ length (section-in today []) + 2
+unfolding write-aad-section write-expanded-aad-section write-aad write-aad-pairs images sum write-uint16
+two-more = refl
+
+in-the-middle : (a x y b : List ℕ) → length x ≡ length y + 2 → length (a ++ (x ++ b)) ≡ length (a ++ (y ++ b)) + 2
+in-the-middle a x y b e =
+    let p = length-append a (x ++ b) in
+    let q = length-append x b in
+    let r = length-append a (y ++ b) in
+    let t = length-append y b in
+    omega arith
+
+longer : (f : Fields) → f .pairs ≡ [] → length (image old f) ≡ length (image today f) + 2
+unfolding image
+longer f e =
+    let v1 = eqb (f .version) 1 in
+    in-the-middle ((f .version ∷ []) ++ write-opening-of v1 (f .messageType) (f .suite) (f .messageId)) (section-in old (f .pairs)) (section-in today (f .pairs))
+    (write-encrypted-data-keys-section (f .keys) ++ ((f .contentType ∷ []) ++ write-closing-of v1 (f .headerIvLength) (f .frameLength) (f .suiteData)))
+    (rw e two-more)
+
+same-images : (f : Fields) → Images f
+unfolding image
+same-images f = record { alike = λ h. rw (same-section (f .pairs) h) refl; two-longer = longer f }
+
+-- a writer's refusal is none just where its checks hold and the image fits
+module _ (w : Writing) (out : List ℕ) where
+  none-then : first (w .checks) ≡ none → length (w .image) ≤ length out → refusal-of w out ≡ none
+  unfolding refusal-of
+  none-then e h = unheld (w .checks ++ (check 28 (leb (length (w .image)) (length out)) ∷ [])) (join (w .checks) (check 28 (leb (length (w .image)) (length out)) ∷ []) (holds (w .checks) e) (leb-is _ _ h, tt))
+
+  then-none : refusal-of w out ≡ none → Holds (w .checks) × (length (w .image) ≤ length out)
+  unfolding refusal-of
+  then-none e =
+      let (a, b) = split (w .checks) (check 28 (leb (length (w .image)) (length out)) ∷ []) (holds (w .checks ++ (check 28 (leb (length (w .image)) (length out)) ∷ [])) e) in
+      (a, is-leb _ _ (b .0))
+
+  accepted-then : (n : ℕ) → written w out ≡ accepted tt n → (refusal-of w out ≡ none) × (n ≡ length (w .image))
+  accepted-then n e = go (refusal-of w out) refl e
+    where
+      go : (o : Option ℕ) → refusal-of w out ≡ o → written-of o (w .image) ≡ accepted tt n → (refusal-of w out ≡ none) × (n ≡ length (w .image))
+      go none q e = (q, cc)
+      go (some k) q e = let z : _≡_ {A = ℕ} 0 1 = cc in absurd (omega arith)
+
+  output-then : refusal-of w out ≡ none → output-after w out ≡ filled (w .image) out
+  output-then e = rw e refl
+
+-- checks in front of the pairs' and of the keys', and those without them
+module _ (o p ps k ks c : List Check) where
+  put-in : Holds p → Holds k → Holds (o ++ (ps ++ (ks ++ c))) → Holds (o ++ ((p ++ ps) ++ ((k ++ ks) ++ c)))
+  put-in hp hk h =
+      let (ho, r) = split o (ps ++ (ks ++ c)) h in
+      let (hps, r′) = split ps (ks ++ c) r in
+      let (hks, hc) = split ks c r′ in
+      join o ((p ++ ps) ++ ((k ++ ks) ++ c)) ho (join (p ++ ps) ((k ++ ks) ++ c) (join p ps hp hps) (join (k ++ ks) c (join k ks hk hks) hc))
+
+  leave-out : Holds (o ++ ((p ++ ps) ++ ((k ++ ks) ++ c))) → Holds (o ++ (ps ++ (ks ++ c)))
+  leave-out h =
+      let (ho, r) = split o ((p ++ ps) ++ ((k ++ ks) ++ c)) h in
+      let (hps, r′) = split (p ++ ps) ((k ++ ks) ++ c) r in
+      let (hks, hc) = split (k ++ ks) c r′ in
+      join o (ps ++ (ks ++ c)) ho (join ps (ks ++ c) (split p ps hps .1) (join ks c (split k ks hks .1) hc))
+
+-- the checks of a body write, with 26 at its places
+module _ (p k : List Check) (f : Fields) where
+  abbrev opens : List Check
+  opens = opening-checks (f .version) (f .messageType) (f .suite) (length (f .messageId))
+
+  abbrev closes : List Check
+  closes = closing-checks (f .version) (f .contentType) (f .headerIvLength) (length (f .suiteData)) (f .frameLength)
+
+  with-26 : Holds p → Holds k → Holds (body-checks [] [] f) → Holds (body-checks p k f)
+  unfolding body-checks
+  with-26 = put-in opens p (pairs-checks (f .pairs)) k (keys-checks (f .keys)) closes
+
+  without-26 : Holds (body-checks p k f) → Holds (body-checks [] [] f)
+  unfolding body-checks
+  without-26 = leave-out opens p (pairs-checks (f .pairs)) k (keys-checks (f .keys)) closes
+
+module _ (w : BodyToWrite) (out : List ℕ) where
+  abbrev img : List ℕ
+  img = image today (fields-to-write w)
+
+  writes : Accepts (fields-to-write w) → first (table-checks 4 (w .text) (w .pairTable)) ≡ none → first (table-checks 6 (w .text) (w .keyTable)) ≡ none
+      → length img ≤ length out → (written (writing-header-body w) out ≡ accepted tt (length img)) × (output-after (writing-header-body w) out ≡ filled img out)
+  unfolding writing-header-body
+  writes a p k h =
+      let f = fields-to-write w in
+      let p₂₆ = table-checks 4 (w .text) (w .pairTable) in
+      let k₂₆ = table-checks 6 (w .text) (w .keyTable) in
+      let all-hold = with-26 p₂₆ k₂₆ f (holds p₂₆ p) (holds k₂₆ k) (holds (body-checks [] [] f) (a .none-applies)) in
+      let e : refusal-of (writing-header-body w) out ≡ none = none-then (writing-header-body w) out (unheld (body-checks p₂₆ k₂₆ f) all-hold) h in
+      (rw e refl, rw e refl)
+
+  frame-is : fields-to-write w .frameLength ≡ w .frameLength
+  unfolding fields-to-write
+  frame-is = refl
+
+  only-then : (n : ℕ) → w .frameLength < 4294967296 → written (writing-header-body w) out ≡ accepted tt n
+      → Accepts (fields-to-write w) × (n ≡ length img) × (n ≤ length out) × (output-after (writing-header-body w) out ≡ filled img out)
+  unfolding writing-header-body
+  only-then n wide e =
+      let (o, d) = accepted-then (writing-header-body w) out n e in
+      let (h, room) = then-none (writing-header-body w) out o in
+      (record { none-applies = unheld (body-checks [] [] (fields-to-write w)) (without-26 (table-checks 4 (w .text) (w .pairTable)) (table-checks 6 (w .text) (w .keyTable)) (fields-to-write w) h); frame-is-32-bits = rw frame-is wide }, d, rw d room, output-then (writing-header-body w) out o)
+
+  -- a filled output is as long as it was
+  length-filled : (front : List ℕ) → length front ≤ length out → length (filled front out) ≡ length out
+  length-filled front h = let p = length-append front (drop (length front) out) in let q = length-drop (length front) out in omega arith
+
+  read-back : (n : ℕ) → w .frameLength < 4294967296 → written (writing-header-body w) out ≡ accepted tt n → length out ≤ 4294967295
+      → (max : Max) (pairRoom keyRoom : ℕ) → 4 * length (fields-to-write w .pairs) ≤ pairRoom → 6 * length (fields-to-write w .keys) ≤ keyRoom
+      → within (length (fields-to-write w .keys)) max ≡ true
+      → (b : HeaderBody) × (operation (read-header-body either tolerant max pairRoom keyRoom) (output-after (writing-header-body w) out) 0 ≡ accepted b n)
+      × Gives (output-after (writing-header-body w) out) b (fields-to-write w)
+  read-back n wide e fits max pairRoom keyRoom hp hk hm =
+      let (a, d, room, o) = only-then n wide e in
+      let long : length (filled img out) ≡ length out = length-filled img (rw (← d) room) in
+      let z = all max pairRoom keyRoom (filled img out) 0 (rw long fits) today (fields-to-write w)
+      (record { accepts = a; after = drop (length img) out; bytes = refl; pairs-held = hp; keys-held = hk; max-not-passed = hm }) in
+      rw (o, d) (z .0, rw zero-add at (z .1), z .2)
+
+  pub sentence-4 : Sentence4 w out
+  sentence-4 = record { images = same-images (fields-to-write w); writes = writes; only-then = only-then; read-back = read-back }

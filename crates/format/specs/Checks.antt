@@ -1,0 +1,90 @@
+-- What writers refuse, of the values that they are handed: refusals in their order, and the first that applies. Assumes nothing.
+use mathlib.Core.Path.{_≡_}
+use mathlib.Core.Option.{Option, none, some}
+use mathlib.Core.Bool.{Bool, true, false, _&&_, _||_, not}
+use mathlib.Core.List.{List, [], _∷_, _++_}
+use Prim.Native.Nat.{ℕ, _<_}
+use lib.Dec.{leb, ltb, eqb}
+use lib.ListN.{length}
+use Rattle.format.specs.Serialize.{images, every}
+use Rattle.format.specs.Utf8.{valid-utf8-seq}
+use Rattle.format.specs.Shared.{by, one-or-two, known, of-version, id-length, iv-length, tag-length, commit-key-length, frame-fits}
+use Rattle.format.specs.Fields.{Pair, EncryptedDataKey, Fields, pair-parts, key-parts}
+use Rattle.format.specs.Context.{seen, linear-length}
+
+-- a refusal's number, and the test that it answers for
+pub record Check : Type 0 where
+  pub number : ℕ
+  pub passes : Bool
+
+abbrev pub check : ℕ → Bool → Check
+check k b = record { number = k; passes = b }
+
+-- the first refusal that applies
+unfoldable pub first : List Check → Option ℕ
+first [] = none
+first (c ∷ cs) = elim (c .passes) [ true ↦ first cs | false ↦ some (c .number) ]
+
+-- the checks of each item, which may look at the items before it
+unfoldable pub each : {A : Type 0} → (List A → A → List Check) → List A → List A → List Check
+each f done [] = []
+each f done (x ∷ xs) = f done x ++ each f (done ++ (x ∷ [])) xs
+
+-- HasUint16Len
+abbrev pub has-uint16-len : List ℕ → Bool
+has-uint16-len part = leb (length part) 65535
+
+-- 27: more than 65,535 items, or a part above 65,535 bytes
+abbrev pub count-checks : ℕ → List (List ℕ) → List Check
+count-checks n parts = check 27 (leb n 65535) ∷ check 27 (every has-uint16-len parts) ∷ []
+
+abbrev pub pair-checks : List Pair → Pair → List Check
+pair-checks done p = check 10 (valid-utf8-seq (p .key)) ∷ check 11 (valid-utf8-seq (p .value)) ∷ check 12 (not (seen (p .key) done)) ∷ []
+
+abbrev pub key-checks : List EncryptedDataKey → EncryptedDataKey → List Check
+key-checks done k = check 16 (valid-utf8-seq (k .keyProviderId)) ∷ []
+
+-- write a context section, without 26 and 28
+unfoldable pub pairs-checks : List Pair → List Check
+pairs-checks ps = count-checks (length ps) (images pair-parts ps) ++ (each pair-checks [] ps ++ (check 13 (ltb (linear-length ps) 65534) ∷ []))
+
+-- write a key section, without 26 and 28
+unfoldable pub keys-checks : List EncryptedDataKey → List Check
+keys-checks ks = count-checks (length ks) (images key-parts ks) ++ each key-checks [] ks
+
+-- write a body: what stands before the pairs', by the ID's length
+abbrev pub opening-checks : ℕ → ℕ → ℕ → ℕ → List Check
+opening-checks version messageType suite id =
+    check 3 (one-or-two version)
+    ∷ check 5 (eqb messageType (by version 0x80 0))
+    ∷ check 6 (known suite)
+    ∷ check 7 (of-version version suite)
+    ∷ check 24 (eqb id (id-length version))
+    ∷ []
+
+-- and behind the keys', by the suite data's length
+abbrev pub closing-checks : ℕ → ℕ → ℕ → ℕ → ℕ → List Check
+closing-checks version content iv suiteData frame =
+    check 17 (one-or-two content)
+    ∷ check 19 (eqb iv (by version iv-length 0))
+    ∷ check 25 (eqb suiteData (by version 0 commit-key-length))
+    ∷ check 20 (frame-fits content frame)
+    ∷ []
+
+-- the refusals of a body write, with checks in front of the pairs' and of the keys', which are the places of 26
+unfoldable pub body-checks : List Check → List Check → Fields → List Check
+body-checks pairs-first keys-first f =
+    opening-checks (f .version) (f .messageType) (f .suite) (length (f .messageId))
+    ++ ((pairs-first ++ pairs-checks (f .pairs))
+    ++ ((keys-first ++ keys-checks (f .keys))
+    ++ closing-checks (f .version) (f .contentType) (f .headerIvLength) (length (f .suiteData)) (f .frameLength)))
+
+-- write an authentication record, by the lengths of its IV and tag, without 28
+unfoldable pub auth-checks : ℕ → ℕ → ℕ → List Check
+auth-checks suite iv tag = check 6 (known suite) ∷ check 19 (eqb iv iv-length) ∷ check 30 (eqb tag tag-length) ∷ []
+
+-- today's writer accepts the fields: no refusal of a body write applies to them, 26 and 28 left aside.
+-- A frame length has 32 bits, so no refusal speaks of a longer one.
+pub record Accepts (f : Fields) : Type 0 where
+  pub none-applies : first (body-checks [] [] f) ≡ none
+  pub frame-is-32-bits : f .frameLength < 4294967296

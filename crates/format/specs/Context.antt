@@ -1,0 +1,116 @@
+-- EncryptionContext.dfy: the context section, read and written, and finding a value in it. Assumes nothing.
+use mathlib.Core.Bool.{Bool, true, false, _&&_, _||_, not}
+use mathlib.Core.List.{List, [], _∷_, _++_, map}
+use Prim.Native.Nat.{ℕ, _+_, _*_}
+use lib.Dec.{leb, ltb, eqb}
+use lib.ListN.{length}
+use Rattle.format.specs.Read.{ReadResult, success, error, Reader, _>>=_, _>>_, return, test, repeat, framed}
+use Rattle.format.specs.Serialize.{Part, read-uint16, write-uint16, read-short-length-seq, write-short-length-seq, entry-length, images, sum, same-bytes}
+use Rattle.format.specs.Utf8.{valid-utf8-seq}
+use Rattle.format.specs.Fields.{Pair, PairAt, pair-of}
+
+-- a key equals a pair's key when their bytes are the same; a key that only begins another differs from it
+unfoldable pub seen : List ℕ → List Pair → Bool
+seen k [] = false
+seen k (p ∷ ps) = same-bytes k (p .key) || seen k ps
+
+-- PairLength, LinearLength: how many bytes a pair takes, and pairs
+abbrev pub pair-length : Pair → ℕ
+pair-length p = entry-length (p .key) + entry-length (p .value)
+
+abbrev pub linear-length : List Pair → ℕ
+linear-length = sum pair-length
+
+-- how an empty context is written: today 00 00, by the old writer 00 02 00 00
+pub data Form : Type 0 where
+  today old : Form
+
+-- WriteAADPair, WriteAADPairs, WriteAAD
+unfoldable pub write-aad-pair : Pair → List ℕ
+write-aad-pair p = write-short-length-seq (p .key) ++ write-short-length-seq (p .value)
+
+unfoldable pub write-aad-pairs : List Pair → List ℕ
+write-aad-pairs ps = images write-aad-pair ps
+
+unfoldable pub write-aad : List Pair → List ℕ
+write-aad ps = write-uint16 (length ps) ++ write-aad-pairs ps
+
+-- WriteExpandedAADSection: the length of what follows, the count and the pairs
+unfoldable pub write-expanded-aad-section : List Pair → List ℕ
+write-expanded-aad-section ps = write-uint16 (2 + linear-length ps) ++ write-aad ps
+
+-- WriteAADSection: the same, but an empty context is its length 0 alone
+unfoldable pub write-aad-section : List Pair → List ℕ
+write-aad-section [] = write-uint16 0
+write-aad-section (p ∷ ps) = write-expanded-aad-section (p ∷ ps)
+
+abbrev pub section-in : Form → List Pair → List ℕ
+section-in today ps = write-aad-section ps
+section-in old ps = write-expanded-aad-section ps
+
+-- whether the old form of an empty section is accepted
+pub data Mode : Type 0 where
+  tolerant strict : Mode
+
+abbrev pub is-strict : Mode → Bool
+is-strict tolerant = false
+is-strict strict = true
+
+-- an entry of UTF-8, else refusal k
+unfoldable pub read-text : ℕ → Reader Part
+read-text k = do
+  e ← read-short-length-seq
+  test k (valid-utf8-seq (e .bytes))
+  return e
+
+-- ReadAADPair
+unfoldable pub read-aad-pair : Reader PairAt
+read-aad-pair = do
+  k ← read-text 10
+  v ← read-text 11
+  return (record { key = k; value = v })
+
+-- a step of ReadAADPairs: the pair behind the pairs acc
+unfoldable pub read-next-aad-pair : List PairAt → Reader PairAt
+read-next-aad-pair acc = do
+  p ← read-aad-pair
+  test 12 (not (seen (p .key .bytes) (map pair-of acc)))
+  test 13 (ltb (linear-length (map pair-of acc) + pair-length (pair-of p)) 65534)
+  return p
+
+-- ReadAAD, of a section whose length n is not 0
+unfoldable pub read-aad : Mode → ℕ → Reader (List PairAt)
+read-aad mode n = do
+  count ← read-uint16
+  test 8 (not (eqb n 2) || eqb count 0)
+  test 21 (not (eqb n 2 && is-strict mode))
+  test 9 (eqb n 2 || not (eqb count 0))
+  repeat count read-next-aad-pair []
+
+-- what follows the section's length n; true: n is 0
+unfoldable pub read-aad-of : Mode → Bool → ℕ → Reader (List PairAt)
+read-aad-of mode true n = return []
+read-aad-of mode false n = framed n 14 (read-aad mode n)
+
+-- ReadAADSection
+unfoldable pub read-aad-section : Mode → Reader (List PairAt)
+read-aad-section mode = do
+  n ← read-uint16
+  read-aad-of mode (eqb n 0) n
+
+-- the same as an operation of its own, with a table of that many numbers
+unfoldable pub read-aad-section-into : Mode → ℕ → Reader (List PairAt)
+read-aad-section-into mode room = do
+  ps ← read-aad-section mode
+  test 22 (leb (4 * length ps) room)
+  return ps
+
+-- GetEncryptionContext, as a find: the value of the pair with the key k
+unfoldable pub look-up : List ℕ → List PairAt → Reader Part
+look-up k [] l s = error 29
+look-up k (p ∷ ps) l s = elim (same-bytes k (p .key .bytes)) [ true ↦ success (p .value) l s | false ↦ look-up k ps l s ]
+
+unfoldable pub find-value : List ℕ → Reader Part
+find-value k = do
+  ps ← read-aad-section tolerant
+  look-up k ps

@@ -1,0 +1,144 @@
+-- Demand 3, sentence by sentence, of the definitions that the contracts cite. It is proved in proofs/Demand3. Assumes nothing.
+use mathlib.Core.Path.{_≡_}
+use mathlib.Core.Bool.{Bool, true, false, cond}
+use mathlib.Core.Option.{none}
+use mathlib.Core.List.{List, [], _∷_, _++_, List·Memᴰ}
+use Prim.Native.Nat.{ℕ, _+_, _*_, _≤_, _<_}
+use lib.ListN.{length, drop}
+use Rattle.format.specs.Read.{Answer, accepted, refused, operation}
+use Rattle.format.specs.Serialize.{Bytes, Part, images, same-bytes}
+use Rattle.format.specs.Shared.{by}
+use Rattle.format.specs.Fields.{PairAt, Fields, HeaderBody, fields-of, pair-places, key-places}
+use Rattle.format.specs.Context.{Form, today, old, Mode, tolerant, strict, read-aad-section, find-value}
+use Rattle.format.specs.Keys.{Max, within}
+use Rattle.format.specs.Body.{Which, either, v1-only, v2-only, Opening, read-opening, read-header-body, read-header-body-untested, image}
+use Rattle.format.specs.Checks.{Accepts, first}
+use Rattle.format.specs.Refusals.{Refusal, body-refusals}
+use Rattle.format.specs.Lent.{bytes-at, filled, table-checks, BodyToWrite, fields-to-write, writing-header-body, written, output-after, pair-table-after, key-table-after}
+
+-- WHAT THE SENTENCES SPEAK OF
+
+-- From s on, the message begins with the image, in that form, of fields that today's writer accepts; the tables hold all
+-- entries, and the key maximum is not passed.
+pub record Stands (max : Max) (pairRoom keyRoom : ℕ) (m : List ℕ) (s : ℕ) (form : Form) (f : Fields) : Type 0 where
+  pub accepts : Accepts f
+  pub after : List ℕ
+  pub bytes : drop s m ≡ image form f ++ after
+  pub pairs-held : 4 * length (f .pairs) ≤ pairRoom
+  pub keys-held : 6 * length (f .keys) ≤ keyRoom
+  pub max-not-passed : within (length (f .keys)) max ≡ true
+
+-- a part that a reader gave has its bytes at its place
+abbrev pub Held : List ℕ → Part → Type 0
+Held m p = bytes-at m (p .start) (length (p .bytes)) ≡ p .bytes
+
+abbrev pub Each : {A : Type 0} → (A → Type 0) → List A → Type 0
+Each P [] = Unit {0}
+Each P (x ∷ xs) = P x × Each P xs
+
+pub record HeldBody (m : List ℕ) (b : HeaderBody) : Type 0 where
+  pub messageId : Held m (b .messageId)
+  pub pairs : Each (Held m) (images pair-places (b .pairs))
+  pub keys : Each (Held m) (images key-places (b .keys))
+  pub suiteData : Held m (b .suiteData)
+
+-- A reader gives fields when its numbers, its counts and the bytes at its places are theirs.
+pub record Gives (m : List ℕ) (b : HeaderBody) (f : Fields) : Type 0 where
+  pub fields : fields-of b ≡ f
+  pub placed : HeldBody m b
+
+-- A body reader reaches the context section when no refusal listed before the section's applies; here that section is 00 02 00 00.
+abbrev pub old-empty : List ℕ → Bool
+old-empty l = same-bytes (bytes-at l 0 4) (0 ∷ 2 ∷ 0 ∷ 0 ∷ [])
+
+abbrev pub reached-old : List ℕ → Answer Opening → Bool
+reached-old m (accepted o t) = old-empty (drop t m)
+reached-old m (refused k p) = false
+
+unfoldable pub reaches-old : Which → List ℕ → ℕ → Bool
+reaches-old which m s = reached-old m (operation (read-opening which) m s)
+
+-- the byte x stands at s
+abbrev pub stands-at : ℕ → List ℕ → ℕ → Bool
+stands-at x m s = same-bytes (bytes-at m s 1) (x ∷ [])
+
+-- SENTENCE 1. A message of at most 4,294,967,295 bytes: the tolerant either-version reader accepts if and only if an image stands
+-- there (`only` and `all`); it then gives those same fields and, as its tail, the end of those bytes. Otherwise, and on any longer
+-- message, it answers the first refusal that applies: read-body makes the tests in their order, and the first that fails leaves.
+pub record Sentence1 (max : Max) (pairRoom keyRoom : ℕ) (m : List ℕ) (s : ℕ) : Type 0 where
+  pub only : length m ≤ 4294967295 → (b : HeaderBody) (t : ℕ) → operation (read-header-body either tolerant max pairRoom keyRoom) m s ≡ accepted b t
+      → (form : Form) × (f : Fields) × Stands max pairRoom keyRoom m s form f × Gives m b f × (t ≡ s + length (image form f))
+  pub all : length m ≤ 4294967295 → (form : Form) (f : Fields) → Stands max pairRoom keyRoom m s form f
+      → (b : HeaderBody) × (operation (read-header-body either tolerant max pairRoom keyRoom) m s ≡ accepted b (s + length (image form f))) × Gives m b f
+  pub otherwise : length m ≤ 4294967295 → ((form : Form) (f : Fields) → Stands max pairRoom keyRoom m s form f → ⊥)
+      → (k : ℕ) × (p : ℕ) × (operation (read-header-body either tolerant max pairRoom keyRoom) m s ≡ refused k p) × Refusal body-refusals m k p
+  pub longer : 4294967295 < length m → operation (read-header-body either tolerant max pairRoom keyRoom) m s ≡ refused 1 0
+
+-- SENTENCE 2. On every message, with the same start, tables and maximum, the strict reader answers as the tolerant one, alike in
+-- number, position, fields with their places, tail and tables afterwards, except that it refuses 21 where the context section it
+-- reaches is 00 02 00 00. (It holds of the readers of one version too.)
+pub record Sentence2 (which : Which) (max : Max) (pairRoom keyRoom : ℕ) (m : List ℕ) (s : ℕ) : Type 0 where
+  pub answers : operation (read-header-body which strict max pairRoom keyRoom) m s
+      ≡ cond (reaches-old which m s) (refused 21 0) (operation (read-header-body which tolerant max pairRoom keyRoom) m s)
+  pub pair-table : (table : List ℕ) → pair-table-after (operation (read-header-body which strict max pairRoom keyRoom) m s) table
+      ≡ cond (reaches-old which m s) table (pair-table-after (operation (read-header-body which tolerant max pairRoom keyRoom) m s) table)
+  pub key-table : (table : List ℕ) → key-table-after (operation (read-header-body which strict max pairRoom keyRoom) m s) table
+      ≡ cond (reaches-old which m s) table (key-table-after (operation (read-header-body which tolerant max pairRoom keyRoom) m s) table)
+  -- the section that is reached stands 20 or 35 bytes after the start, by version
+  pub reached : (o : Opening) (t : ℕ) → operation (read-opening which) m s ≡ accepted o t → t ≡ s + by (o .version) 20 35
+
+-- SENTENCE 3. In a message of at most that length, a reader of one version refuses 4 where the other version's byte stands at the
+-- start, whatever follows; in every other case it answers, with the same start, tables and maximum, as the tolerant one would with
+-- 20 left untested. (And in the strict mode as the strict one would.)
+pub record Sentence3 (mode : Mode) (max : Max) (pairRoom keyRoom : ℕ) (m : List ℕ) (s : ℕ) : Type 0 where
+  pub version-1 : operation (read-header-body v1-only mode max pairRoom keyRoom) m s
+      ≡ cond (stands-at 2 m s) (refused 4 0) (operation (read-header-body-untested mode max pairRoom keyRoom) m s)
+  pub version-2 : operation (read-header-body v2-only mode max pairRoom keyRoom) m s
+      ≡ cond (stands-at 1 m s) (refused 4 0) (operation (read-header-body-untested mode max pairRoom keyRoom) m s)
+
+-- SENTENCE 4. The two images differ only for an empty context; where no refusal applies the writer's output is today's image and
+-- its length; reading it back follows from sentence 1.
+pub record Images (f : Fields) : Type 0 where
+  pub alike : (f .pairs ≡ [] → ⊥) → image old f ≡ image today f
+  pub two-longer : f .pairs ≡ [] → length (image old f) ≡ length (image today f) + 2
+
+pub record Sentence4 (w : BodyToWrite) (out : List ℕ) : Type 0 where
+  pub images : Images (fields-to-write w)
+  pub writes : Accepts (fields-to-write w) → first (table-checks 4 (w .text) (w .pairTable)) ≡ none → first (table-checks 6 (w .text) (w .keyTable)) ≡ none
+      → length (image today (fields-to-write w)) ≤ length out
+      → (written (writing-header-body w) out ≡ accepted tt (length (image today (fields-to-write w))))
+      × (output-after (writing-header-body w) out ≡ filled (image today (fields-to-write w)) out)
+  -- and where it is accepted, no refusal applied
+  pub only-then : (n : ℕ) → w .frameLength < 4294967296 → written (writing-header-body w) out ≡ accepted tt n
+      → Accepts (fields-to-write w) × (n ≡ length (image today (fields-to-write w))) × (n ≤ length out) × (output-after (writing-header-body w) out ≡ filled (image today (fields-to-write w)) out)
+  pub read-back : (n : ℕ) → w .frameLength < 4294967296 → written (writing-header-body w) out ≡ accepted tt n → length out ≤ 4294967295
+      → (max : Max) (pairRoom keyRoom : ℕ) → 4 * length (fields-to-write w .pairs) ≤ pairRoom → 6 * length (fields-to-write w .keys) ≤ keyRoom
+      → within (length (fields-to-write w .keys)) max ≡ true
+      → (b : HeaderBody) × (operation (read-header-body either tolerant max pairRoom keyRoom) (output-after (writing-header-body w) out) 0 ≡ accepted b n)
+      × Gives (output-after (writing-header-body w) out) b (fields-to-write w)
+
+-- FIND answers the value of the one pair with that key, and 29 exactly when no pair has it.
+pub data Has (k : List ℕ) : List PairAt → Type 0 where
+  here : {p : PairAt} {ps : List PairAt} → k ≡ p .key .bytes → Has k (p ∷ ps)
+  there : {p : PairAt} {ps : List PairAt} → Has k ps → Has k (p ∷ ps)
+
+-- no two pairs have the same key
+abbrev pub Differ : List PairAt → Type 0
+Differ [] = Unit {0}
+Differ (p ∷ ps) = (Has (p .key .bytes) ps → ⊥) × Differ ps
+
+pub record Finds (k m : List ℕ) (s : ℕ) : Type 0 where
+  -- the section's refusals are find's
+  pub refuses : (j p : ℕ) → operation (read-aad-section tolerant) m s ≡ refused j p → operation (find-value k) m s ≡ refused j p
+  pub one : (ps : List PairAt) (t : ℕ) → operation (read-aad-section tolerant) m s ≡ accepted ps t → Differ ps
+  pub value : (ps : List PairAt) (t : ℕ) → operation (read-aad-section tolerant) m s ≡ accepted ps t → (p : PairAt) → List·Memᴰ p ps → k ≡ p .key .bytes
+      → operation (find-value k) m s ≡ accepted (p .value) t
+  pub none-has-it : (ps : List PairAt) (t : ℕ) → operation (read-aad-section tolerant) m s ≡ accepted ps t → (Has k ps → ⊥) → operation (find-value k) m s ≡ refused 29 0
+
+-- DEMAND 3, whole
+pub record Demand3 : Type 0 where
+  pub sentence-1 : (max : Max) (pairRoom keyRoom : ℕ) (m : List ℕ) (s : ℕ) → Bytes m → Sentence1 max pairRoom keyRoom m s
+  pub sentence-2 : (which : Which) (max : Max) (pairRoom keyRoom : ℕ) (m : List ℕ) (s : ℕ) → Bytes m → Sentence2 which max pairRoom keyRoom m s
+  pub sentence-3 : (mode : Mode) (max : Max) (pairRoom keyRoom : ℕ) (m : List ℕ) (s : ℕ) → length m ≤ 4294967295 → Sentence3 mode max pairRoom keyRoom m s
+  pub sentence-4 : (w : BodyToWrite) (out : List ℕ) → Sentence4 w out
+  pub finds : (k m : List ℕ) (s : ℕ) → Bytes m → Finds k m s

@@ -1,0 +1,144 @@
+-- Where two refusals apply, the first listed is answered: messages and fields with two faults, one behind the other in the order of
+-- the tests, in one table with one statement. It pins the order, which demand 3 leaves to the definitions. Assumes nothing.
+use mathlib.Core.Path.{_≡_, refl}
+use mathlib.Core.Bool.{Bool, true, false}
+use mathlib.Core.Option.{Option, none, some}
+use mathlib.Core.List.{List, [], _∷_, _++_}
+use Prim.Native.Nat.{ℕ}
+use lib.Dec.{eqb}
+use lib.ListN.{take, drop}
+use Rattle.format.specs.Read.{operation}
+use Rattle.format.specs.Serialize.{every}
+use Rattle.format.specs.Fields.{Fields}
+use Rattle.format.specs.Context.{Mode, tolerant, strict, today, read-aad-section-into, find-value}
+use Rattle.format.specs.Keys.{no-max, at-most, read-encrypted-data-keys-section-into}
+use Rattle.format.specs.Body.{Which, either, v1-only, v2-only, read-header-body, image}
+use Rattle.format.specs.Auth.{read-header-auth-tag, read-header-auth-tag-of, write-header-auth-tag, zeros}
+use Rattle.format.specs.Checks.{auth-checks}
+use Rattle.format.specs.Lent.{place, pair-numbers, key-numbers, items, part-in, in-text, table-checks, Writing, refusal-of, BodyToWrite, fields-to-write, writing-aad-section, writing-encrypted-data-keys-section, writing-header-body, writing-header-auth-tag}
+use Rattle.format.specs.Cases.{Expected, refuses, shortage-at, is, body-numbers, H, opened, laid-out}
+
+pub data Fault : Type 0 where
+  -- a context section of a mode, with a table of so many numbers
+  section : Mode → ℕ → List ℕ → Expected → Fault
+  -- a key section, at most one key, with a table of so many numbers
+  keys : ℕ → List ℕ → Expected → Fault
+  -- a body, at a start, with tables of so many numbers each
+  body : Which → ℕ → ℕ → List ℕ → ℕ → Expected → Fault
+  -- an authentication record of a suite, at a start
+  auth : ℕ → List ℕ → ℕ → Expected → Fault
+  -- a writer's call, into an output of no bytes
+  write : Writing → ℕ → Fault
+
+abbrev none-else : Option ℕ → ℕ → Bool
+none-else none k = false
+none-else (some j) k = eqb j k
+
+abbrev no-numbers : {A : Type 0} → A → List ℕ
+no-numbers a = []
+
+unfoldable pub answered : Fault → Bool
+answered (section mode room m want) = is pair-numbers (operation (read-aad-section-into mode room) m 0) want
+answered (keys room m want) = is key-numbers (operation (read-encrypted-data-keys-section-into (at-most 1) room) m 0) want
+answered (body which pairRoom keyRoom m s want) = is body-numbers (operation (read-header-body which tolerant no-max pairRoom keyRoom) m s) want
+answered (auth suite m s want) = is no-numbers (operation (read-header-auth-tag suite) m s) want
+answered (write w k) = none-else (refusal-of w []) k
+
+-- H up to its key section's end, with another rest
+abbrev before-closing : List ℕ → List ℕ
+before-closing rest = take 48 H ++ rest
+
+-- a call of the body writer that writes H, but for the numbers given, over the text 6C 61 6E 67 63 79 FF
+abbrev to-write : ℕ → ℕ → ℕ → List ℕ → List ℕ → List ℕ → ℕ → ℕ → List ℕ → ℕ → Writing
+to-write version messageType suite messageId pairTable keyTable contentType iv suiteData frame =
+    writing-header-body (record {
+      version = version;
+      messageType = messageType;
+      suite = suite;
+      contentType = contentType;
+      headerIvLength = iv;
+      frameLength = frame;
+      messageId = messageId;
+      suiteData = suiteData;
+      text = 0x6C ∷ 0x61 ∷ 0x6E ∷ 0x67 ∷ 0x63 ∷ 0x79 ∷ 0xFF ∷ [];
+      pairTable = pairTable;
+      keyTable = keyTable;
+    })
+
+abbrev id : List ℕ
+id = take 16 (drop 4 H)
+
+unfoldable pub faults : List Fault
+faults =
+    -- read a body
+    body either 0 0 [] 4294967296 (refuses 1 0)
+    ∷ body either 0 0 (0x03 ∷ []) 0 (refuses 3 0)
+    ∷ body v2-only 0 0 (0x01 ∷ 0x81 ∷ []) 0 (refuses 4 0)
+    ∷ body v1-only 0 0 (0x02 ∷ []) 0 (refuses 4 0)
+    ∷ body either 0 0 (0x01 ∷ 0x81 ∷ []) 0 (refuses 5 0)
+    ∷ body either 0 0 (0x01 ∷ 0x80 ∷ 0x04 ∷ 0x99 ∷ []) 0 (refuses 6 0)
+    ∷ body either 0 0 (0x02 ∷ 0x00 ∷ 0x00 ∷ []) 0 (refuses 6 0)
+    ∷ body either 0 0 (0x01 ∷ 0x80 ∷ 0x04 ∷ 0x78 ∷ []) 0 (refuses 7 0)
+    ∷ body either 0 0 (0x02 ∷ 0x01 ∷ 0x78 ∷ []) 0 (refuses 7 0)
+    ∷ body either 0 0 (before-closing (0x03 ∷ [])) 0 (refuses 17 0)
+    ∷ body either 0 0 (before-closing (0x02 ∷ 0x00 ∷ 0x00 ∷ 0x00 ∷ 0x01 ∷ [])) 0 (refuses 18 0)
+    ∷ body either 0 0 (before-closing (0x02 ∷ 0x00 ∷ 0x00 ∷ 0x00 ∷ 0x00 ∷ 0x0B ∷ [])) 0 (refuses 19 0)
+    ∷ body either 0 0 (before-closing (0x02 ∷ 0x00 ∷ 0x00 ∷ 0x00 ∷ 0x00 ∷ 0x0C ∷ 0x00 ∷ 0x00 ∷ 0x00 ∷ [])) 0 (shortage-at 58)
+    ∷ body either 0 0 (before-closing (0x02 ∷ 0x00 ∷ 0x00 ∷ 0x00 ∷ 0x00 ∷ 0x0C ∷ 0x00 ∷ 0x00 ∷ 0x00 ∷ 0x00 ∷ [])) 0 (refuses 20 0)
+    ∷ body v1-only 0 0 (before-closing (0x02 ∷ 0x00 ∷ 0x00 ∷ 0x00 ∷ 0x00 ∷ 0x0C ∷ 0x00 ∷ 0x00 ∷ 0x00 ∷ 0x00 ∷ [])) 0 (refuses 22 0)
+    ∷ body either 3 5 H 0 (refuses 22 0)
+    ∷ body either 4 5 H 0 (refuses 23 0)
+    -- read a context section
+    ∷ section strict 0 (0x00 ∷ 0x02 ∷ 0x00 ∷ 0x01 ∷ []) (refuses 8 0)
+    ∷ section strict 0 (0x00 ∷ 0x03 ∷ 0x00 ∷ 0x00 ∷ []) (shortage-at 5)
+    ∷ section strict 0 (0x00 ∷ 0x01 ∷ 0x00 ∷ 0x00 ∷ []) (refuses 9 0)
+    ∷ section tolerant 0 (0x00 ∷ 0x05 ∷ 0x00 ∷ 0x01 ∷ 0x00 ∷ 0x01 ∷ 0xFF ∷ []) (refuses 10 0)
+    ∷ section tolerant 0 (0x00 ∷ 0x0C ∷ 0x00 ∷ 0x02 ∷ 0x00 ∷ 0x00 ∷ 0x00 ∷ 0x00 ∷ 0x00 ∷ 0x00 ∷ 0x00 ∷ 0x02 ∷ 0xC0 ∷ 0x80 ∷ []) (refuses 11 0)
+    ∷ section tolerant 0 (0x00 ∷ 0x0A ∷ 0x00 ∷ 0x03 ∷ 0x00 ∷ 0x00 ∷ 0x00 ∷ 0x00 ∷ 0x00 ∷ 0x00 ∷ 0x00 ∷ 0x00 ∷ []) (refuses 12 0)
+    ∷ section tolerant 0 (0x00 ∷ 0x07 ∷ 0x00 ∷ 0x01 ∷ 0x00 ∷ 0x00 ∷ 0x00 ∷ 0x00 ∷ 0x00 ∷ []) (refuses 14 0)
+    ∷ section tolerant 3 (0x00 ∷ 0x06 ∷ 0x00 ∷ 0x01 ∷ 0x00 ∷ 0x00 ∷ 0x00 ∷ 0x00 ∷ []) (refuses 22 0)
+    -- read a key section
+    ∷ keys 0 (0x00 ∷ 0x02 ∷ []) (refuses 15 0)
+    ∷ keys 0 (0x00 ∷ 0x01 ∷ 0x00 ∷ 0x01 ∷ 0xFF ∷ []) (refuses 16 0)
+    ∷ keys 5 (0x00 ∷ 0x01 ∷ 0x00 ∷ 0x00 ∷ 0x00 ∷ 0x00 ∷ 0x00 ∷ []) (shortage-at 8)
+    ∷ keys 5 (0x00 ∷ 0x01 ∷ 0x00 ∷ 0x00 ∷ 0x00 ∷ 0x00 ∷ 0x00 ∷ 0x00 ∷ []) (refuses 23 0)
+    -- read an authentication record
+    ∷ auth 0x0000 [] 4294967296 (refuses 1 0)
+    ∷ auth 0x0000 [] 0 (refuses 6 0)
+    ∷ auth 0x0178 [] 0 (shortage-at 12)
+    ∷ auth 0x0478 [] 0 (shortage-at 16)
+    -- write a body: each fault with the one that follows it in the order
+    ∷ write (to-write 3 1 0 [] (0 ∷ []) [] 0 0 [] 0) 3
+    ∷ write (to-write 1 0 0 [] (0 ∷ []) [] 0 0 [] 0) 5
+    ∷ write (to-write 2 0x80 0 [] (0 ∷ []) [] 0 0 [] 0) 5
+    ∷ write (to-write 1 0x80 0 [] (0 ∷ []) [] 0 0 [] 0) 6
+    ∷ write (to-write 1 0x80 0x0478 [] (0 ∷ []) [] 0 0 [] 0) 7
+    ∷ write (to-write 1 0x80 0x0178 [] (0 ∷ []) [] 0 0 [] 0) 24
+    ∷ write (to-write 1 0x80 0x0178 id (0 ∷ 8 ∷ 0 ∷ 65536 ∷ []) [] 0 0 [] 0) 26
+    ∷ write (to-write 1 0x80 0x0178 id (0 ∷ 4 ∷ 4 ∷ []) [] 0 0 [] 0) 26
+    ∷ write (to-write 1 0x80 0x0178 id (6 ∷ 1 ∷ 6 ∷ 1 ∷ []) (0 ∷ []) 0 0 [] 0) 10
+    ∷ write (to-write 1 0x80 0x0178 id (0 ∷ 4 ∷ 4 ∷ 2 ∷ 0 ∷ 4 ∷ 6 ∷ 1 ∷ []) (0 ∷ []) 0 0 [] 0) 11
+    ∷ write (to-write 1 0x80 0x0178 id (0 ∷ 4 ∷ 4 ∷ 2 ∷ 0 ∷ 4 ∷ 4 ∷ 2 ∷ []) (0 ∷ []) 0 0 [] 0) 12
+    ∷ write (to-write 1 0x80 0x0178 id (0 ∷ 4 ∷ 4 ∷ 2 ∷ []) (6 ∷ 1 ∷ 0 ∷ 0 ∷ 0 ∷ 0 ∷ 0 ∷ []) 0 0 [] 0) 26
+    ∷ write (to-write 1 0x80 0x0178 id (0 ∷ 4 ∷ 4 ∷ 2 ∷ []) (6 ∷ 1 ∷ 0 ∷ 0 ∷ 0 ∷ 0 ∷ []) 0 0 [] 0) 16
+    ∷ write (to-write 1 0x80 0x0178 id (0 ∷ 4 ∷ 4 ∷ 2 ∷ []) [] 0 0 (0 ∷ []) 0) 17
+    ∷ write (to-write 1 0x80 0x0178 id (0 ∷ 4 ∷ 4 ∷ 2 ∷ []) [] 2 0 (0 ∷ []) 0) 19
+    ∷ write (to-write 1 0x80 0x0178 id (0 ∷ 4 ∷ 4 ∷ 2 ∷ []) [] 2 12 (0 ∷ []) 0) 25
+    ∷ write (to-write 1 0x80 0x0178 id (0 ∷ 4 ∷ 4 ∷ 2 ∷ []) [] 2 12 [] 0) 20
+    ∷ write (to-write 1 0x80 0x0178 id (0 ∷ 4 ∷ 4 ∷ 2 ∷ []) [] 1 12 [] 1) 20
+    ∷ write (to-write 1 0x80 0x0178 id (0 ∷ 4 ∷ 4 ∷ 2 ∷ []) [] 2 12 [] 1) 28
+    -- write a section, a record
+    ∷ write (writing-aad-section [] (0 ∷ 0 ∷ [])) 26
+    ∷ write (writing-aad-section [] []) 28
+    ∷ write (writing-encrypted-data-keys-section [] (0 ∷ 0 ∷ 0 ∷ 0 ∷ [])) 26
+    ∷ write (writing-encrypted-data-keys-section [] []) 28
+    ∷ write (writing-header-auth-tag 0x0000 [] []) 6
+    ∷ write (writing-header-auth-tag 0x0178 [] []) 19
+    ∷ write (writing-header-auth-tag 0x0478 id []) 19
+    ∷ write (writing-header-auth-tag 0x0478 (take 12 id) []) 30
+    ∷ write (writing-header-auth-tag 0x0478 (take 12 id) id) 28
+    ∷ []
+
+pub first-fault : every answered faults ≡ true
+unfolding opened laid-out faults answered is H body-numbers zeros read-encrypted-data-keys-section-into read-header-auth-tag-of read-header-auth-tag write-header-auth-tag auth-checks items part-in in-text table-checks refusal-of fields-to-write writing-aad-section writing-encrypted-data-keys-section writing-header-body writing-header-auth-tag
+first-fault = refl

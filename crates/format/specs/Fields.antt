@@ -1,0 +1,83 @@
+-- The fields of a header body: by value, as writers have them, and by place, as readers give them. Assumes nothing.
+use mathlib.Core.List.{List, [], _∷_, map}
+use Prim.Native.Nat.{ℕ}
+use Rattle.format.specs.Serialize.{Part}
+
+pub record Pair : Type 0 where
+  pub key : List ℕ
+  pub value : List ℕ
+
+pub record EncryptedDataKey : Type 0 where
+  pub keyProviderId : List ℕ
+  pub keyProviderInfo : List ℕ
+  pub ciphertext : List ℕ
+
+-- the fields; two are equal when their bytes and numbers are, whatever their places
+pub record Fields : Type 0 where
+  pub version : ℕ
+  pub messageType : ℕ
+  pub suite : ℕ
+  pub messageId : List ℕ
+  pub pairs : List Pair
+  pub keys : List EncryptedDataKey
+  pub contentType : ℕ
+  pub headerIvLength : ℕ
+  pub frameLength : ℕ
+  pub suiteData : List ℕ
+
+pub record PairAt : Type 0 where
+  pub key : Part
+  pub value : Part
+
+pub record EncryptedDataKeyAt : Type 0 where
+  pub keyProviderId : Part
+  pub keyProviderInfo : Part
+  pub ciphertext : Part
+
+-- the record that a body reader gives
+pub record HeaderBody : Type 0 where
+  pub version : ℕ
+  pub messageType : ℕ
+  pub suite : ℕ
+  pub messageId : Part
+  pub pairs : List PairAt
+  pub keys : List EncryptedDataKeyAt
+  pub contentType : ℕ
+  pub headerIvLength : ℕ
+  pub frameLength : ℕ
+  pub suiteData : Part
+
+-- the fields without their places
+abbrev pub pair-of : PairAt → Pair
+pair-of p = record { key = p .key .bytes; value = p .value .bytes }
+
+abbrev pub key-of : EncryptedDataKeyAt → EncryptedDataKey
+key-of k = record { keyProviderId = k .keyProviderId .bytes; keyProviderInfo = k .keyProviderInfo .bytes; ciphertext = k .ciphertext .bytes }
+
+unfoldable pub fields-of : HeaderBody → Fields
+fields-of b =
+    record {
+      version = b .version;
+      messageType = b .messageType;
+      suite = b .suite;
+      messageId = b .messageId .bytes;
+      pairs = map pair-of (b .pairs);
+      keys = map key-of (b .keys);
+      contentType = b .contentType;
+      headerIvLength = b .headerIvLength;
+      frameLength = b .frameLength;
+      suiteData = b .suiteData .bytes;
+    }
+
+-- an item's parts, in order: the two of a pair, the three of a key
+abbrev pub pair-parts : Pair → List (List ℕ)
+pair-parts p = p .key ∷ p .value ∷ []
+
+abbrev pub key-parts : EncryptedDataKey → List (List ℕ)
+key-parts k = k .keyProviderId ∷ k .keyProviderInfo ∷ k .ciphertext ∷ []
+
+abbrev pub pair-places : PairAt → List Part
+pair-places p = p .key ∷ p .value ∷ []
+
+abbrev pub key-places : EncryptedDataKeyAt → List Part
+key-places k = k .keyProviderId ∷ k .keyProviderInfo ∷ k .ciphertext ∷ []

@@ -1,0 +1,53 @@
+-- EncryptedDataKeys.dfy: the key section, read and written. Assumes nothing.
+use mathlib.Core.Bool.{Bool, true}
+use mathlib.Core.List.{List, [], _∷_, _++_}
+use Prim.Native.Nat.{ℕ, _*_}
+use lib.Dec.{leb}
+use lib.ListN.{length}
+use Rattle.format.specs.Read.{Reader, _>>=_, _>>_, return, test, repeat}
+use Rattle.format.specs.Serialize.{read-uint16, write-uint16, read-short-length-seq, write-short-length-seq, images}
+use Rattle.format.specs.Fields.{EncryptedDataKey, EncryptedDataKeyAt}
+use Rattle.format.specs.Context.{read-text}
+
+-- the key maximum of a request: none, or a number
+pub data Max : Type 0 where
+  no-max : Max
+  at-most : ℕ → Max
+
+-- the maximum is not passed by n keys
+abbrev pub within : ℕ → Max → Bool
+within n no-max = true
+within n (at-most max) = leb n max
+
+-- WriteEncryptedDataKey, WriteEncryptedDataKeys, WriteEncryptedDataKeysSection
+unfoldable pub write-encrypted-data-key : EncryptedDataKey → List ℕ
+write-encrypted-data-key k =
+    write-short-length-seq (k .keyProviderId) ++ (write-short-length-seq (k .keyProviderInfo) ++ write-short-length-seq (k .ciphertext))
+
+unfoldable pub write-encrypted-data-keys : List EncryptedDataKey → List ℕ
+write-encrypted-data-keys ks = images write-encrypted-data-key ks
+
+unfoldable pub write-encrypted-data-keys-section : List EncryptedDataKey → List ℕ
+write-encrypted-data-keys-section ks = write-uint16 (length ks) ++ write-encrypted-data-keys ks
+
+-- ReadEncryptedDataKey
+unfoldable pub read-encrypted-data-key : Reader EncryptedDataKeyAt
+read-encrypted-data-key = do
+  provider ← read-text 16
+  info ← read-short-length-seq
+  cipher ← read-short-length-seq
+  return (record { keyProviderId = provider; keyProviderInfo = info; ciphertext = cipher })
+
+-- ReadEncryptedDataKeysSection: the maximum is tested before any key is read
+unfoldable pub read-encrypted-data-keys-section : Max → Reader (List EncryptedDataKeyAt)
+read-encrypted-data-keys-section max = do
+  count ← read-uint16
+  test 15 (within count max)
+  repeat count (λ acc. read-encrypted-data-key) []
+
+-- the same as an operation of its own, with a table of that many numbers
+unfoldable pub read-encrypted-data-keys-section-into : Max → ℕ → Reader (List EncryptedDataKeyAt)
+read-encrypted-data-keys-section-into max room = do
+  ks ← read-encrypted-data-keys-section max
+  test 23 (leb (6 * length ks) room)
+  return ks

@@ -1,0 +1,56 @@
+-- Demand 3 has some tests on both of its sides, so a wrong one would still satisfy it: UTF-8, key seen before, known suites, frame
+-- length against content type, lengths. Here each is held to a statement of its own; they are proved in proofs/Pinned. Assumes nothing.
+use mathlib.Core.Path.{_≡_}
+use mathlib.Core.Bool.{Bool, true, false}
+use mathlib.Core.Logic.{_⊎_}
+use mathlib.Core.List.{List, [], _∷_, _++_, map, List·Memᴰ}
+use Prim.Native.Nat.{ℕ, _≤_, _<_}
+use lib.ListN.{length}
+use Rattle.format.specs.Serialize.{same-bytes}
+use Rattle.format.specs.Utf8.{Range, has, rows, valid-utf8-seq}
+use Rattle.format.specs.Shared.{one-or-two, SuiteRow, row, suites, suite-version, known, frame-fits}
+use Rattle.format.specs.Fields.{Pair, PairAt, pair-of, EncryptedDataKey}
+use Rattle.format.specs.Context.{seen, linear-length, write-aad-pairs}
+use Rattle.format.specs.Keys.{Max, no-max, at-most, within}
+use Rattle.format.specs.Demand3.{Has}
+
+-- a row's ranges, byte by byte
+pub data Match : List Range → List ℕ → Type 0 where
+  done : Match [] []
+  byte : {r : Range} {rs : List Range} {b : ℕ} {bs : List ℕ} → has r b ≡ true → Match rs bs → Match (r ∷ rs) (b ∷ bs)
+
+-- a row is one of these
+pub data In : List Range → List (List Range) → Type 0 where
+  here : {row : List Range} {rs : List (List Range)} → In row (row ∷ rs)
+  there : {row other : List Range} {rs : List (List Range)} → In row rs → In row (other ∷ rs)
+
+-- UTF8-octets = *( UTF8-char ), a character being what matches a row of the grammar
+pub data Octets : List ℕ → Type 0 where
+  none : Octets []
+  char : {row : List Range} {c s : List ℕ} → In row rows → Match row c → Octets s → Octets (c ++ s)
+
+-- a Boolean test holds just where a statement does
+pub record Decides (test : Bool) (P : Type 0) : Type 0 where
+  pub then-holds : test ≡ true → P
+  pub holds-then : P → test ≡ true
+
+pub record Pinned : Type 0 where
+  -- the grammar of RFC 3629
+  pub utf8 : (bytes : List ℕ) → Decides (valid-utf8-seq bytes) (Octets bytes)
+  -- two keys are equal when their bytes are, and a key was seen when a pair has it
+  pub equal : (a b : List ℕ) → Decides (same-bytes a b) (a ≡ b)
+  pub seen-before : (k : List ℕ) (ps : List PairAt) → Decides (seen k (map pair-of ps)) (Has k ps)
+  -- the lookup is the table: eleven rows, each with its version, and no other number is known
+  pub eleven : length suites ≡ 11
+  pub in-a-row : (suite : ℕ) → known suite ≡ true → List·Memᴰ (row suite (suite-version suite)) suites
+  pub row-of : (r : SuiteRow) → List·Memᴰ r suites → suite-version (r .number) ≡ r .version
+  pub no-third : (suite : ℕ) → known suite ≡ true → one-or-two (suite-version suite) ≡ true
+  -- versions and content types
+  pub one-two : (x : ℕ) → Decides (one-or-two x) ((x ≡ 1) ⊎ (x ≡ 2))
+  -- framed content has a frame length above 0, non-framed content has 0
+  pub frames : (content frame : ℕ) → Decides (frame-fits content frame) (((content ≡ 1) × (frame ≡ 0)) ⊎ ((content ≡ 2) × (0 < frame)))
+  -- a maximum is passed by a count above it
+  pub maximum : (n max : ℕ) → Decides (within n (at-most max)) (n ≤ max)
+  pub no-maximum : (n : ℕ) → within n no-max ≡ true
+  -- what pairs take is what their entries take
+  pub pairs-take : (ps : List Pair) → length (write-aad-pairs ps) ≡ linear-length ps

@@ -1,0 +1,76 @@
+-- How bytes are read: a reader takes the bytes that are left and the place of the first of them in the message.
+-- Assumes nothing.
+use mathlib.Core.Bool.{Bool, true, false, _&&_}
+use mathlib.Core.List.{List, [], _∷_, _++_}
+use Prim.Native.Nat.{ℕ, zero, suc, _+_}
+use lib.Dec.{leb, eqb}
+use lib.ListN.{length, drop}
+
+-- The source's ReadResult. success: what was read, the bytes left and the place of the first of them, which is the tail.
+-- more-needed: refusal 2, with the position wanted. error: any other refusal, by its number; its position is 0.
+pub data ReadResult (A : Type 0) : Type 0 where
+  success : A → List ℕ → ℕ → ReadResult A
+  more-needed : ℕ → ReadResult A
+  error : ℕ → ReadResult A
+
+abbrev pub Reader : Type 0 → Type 0
+Reader A = List ℕ → ℕ → ReadResult A
+
+module _ {A B : Type 0} where
+  abbrev pub go-on : ReadResult A → (A → Reader B) → ReadResult B
+  go-on (success a l t) f = f a l t
+  go-on (more-needed p) f = more-needed p
+  go-on (error k) f = error k
+
+-- one reader and then another at its tail; a refusal leaves at once
+module _ {A B : Type 0} where
+  infixl 20 _>>=_
+  unfoldable pub _>>=_ : Reader A → (A → Reader B) → Reader B
+  (r >>= f) l s = go-on (r l s) f
+
+module _ {A B : Type 0} where
+  infixl 20 _>>_
+  unfoldable pub _>>_ : Reader A → Reader B → Reader B
+  (r >> q) l s = go-on (r l s) (λ a. q)
+
+unfoldable pub return : {A : Type 0} → A → Reader A
+return a l s = success a l s
+
+-- a test with its refusal
+unfoldable pub test : ℕ → Bool → Reader (Unit {0})
+test k true l s = success tt l s
+test k false l s = error k
+
+module _ {A : Type 0} where
+  -- count items, each read in the light of those before it
+  unfoldable pub repeat : ℕ → (List A → Reader A) → List A → Reader (List A)
+  repeat zero step acc = return acc
+  repeat (suc n) step acc = step acc >>= λ a. repeat n step (acc ++ (a ∷ []))
+
+  -- n bytes have to be there, and r has to end where they do: else refusal k. r itself is not stopped at their end.
+  unfoldable pub framed : ℕ → ℕ → Reader A → Reader A
+  framed n k r l s =
+      elim (leb n (length l))
+      [ true ↦ (r >>= λ a l′ t. go-on (test k (eqb t (s + n)) l′ t) (λ u. return a)) l s | false ↦ more-needed (s + n) ]
+
+-- what an operation answers: what was read and the tail, or a refusal's number and position
+pub data Answer (A : Type 0) : Type 0 where
+  accepted : A → ℕ → Answer A
+  refused : ℕ → ℕ → Answer A
+
+abbrev pub answer : {A : Type 0} → ReadResult A → Answer A
+answer (success a l t) = accepted a t
+answer (more-needed p) = refused 2 p
+answer (error k) = refused k 0
+
+-- reading at a place of a message
+unfoldable pub at : {A : Type 0} → Reader A → List ℕ → ℕ → Answer A
+at r m s = answer (r (drop s m) s)
+
+-- refusal 1: the message's length or the start is above 4,294,967,295
+abbrev pub addressable : List ℕ → ℕ → Bool
+addressable m s = leb (length m) 4294967295 && leb s 4294967295
+
+-- reading a message at a start, as an operation of its own
+unfoldable pub operation : {A : Type 0} → Reader A → List ℕ → ℕ → Answer A
+operation r m s = elim (addressable m s) [ true ↦ at r m s | false ↦ refused 1 0 ]

@@ -1,0 +1,42 @@
+-- The refusals that each reading operation can answer, in the order in which they are tested. Assumes nothing.
+use mathlib.Core.Path.{_≡_}
+use mathlib.Core.List.{List, [], _∷_, List·Memᴰ}
+use Prim.Native.Nat.{ℕ, _<_}
+use lib.ListN.{length}
+use Rattle.format.specs.Read.{Reader, operation, refused}
+use Rattle.format.specs.Context.{Mode, read-aad-section-into, find-value}
+use Rattle.format.specs.Keys.{Max, read-encrypted-data-keys-section-into}
+use Rattle.format.specs.Body.{Request, read-body}
+use Rattle.format.specs.Auth.{read-header-auth-tag}
+
+unfoldable pub context-refusals : List ℕ
+context-refusals = 1 ∷ 2 ∷ 8 ∷ 21 ∷ 9 ∷ 10 ∷ 11 ∷ 12 ∷ 13 ∷ 14 ∷ 22 ∷ []
+
+unfoldable pub find-refusals : List ℕ
+find-refusals = 1 ∷ 2 ∷ 8 ∷ 21 ∷ 9 ∷ 10 ∷ 11 ∷ 12 ∷ 13 ∷ 14 ∷ 29 ∷ []
+
+unfoldable pub keys-refusals : List ℕ
+keys-refusals = 1 ∷ 2 ∷ 15 ∷ 16 ∷ 23 ∷ []
+
+unfoldable pub body-refusals : List ℕ
+body-refusals = 1 ∷ 2 ∷ 3 ∷ 4 ∷ 5 ∷ 6 ∷ 7 ∷ 8 ∷ 21 ∷ 9 ∷ 10 ∷ 11 ∷ 12 ∷ 13 ∷ 14 ∷ 15 ∷ 16 ∷ 17 ∷ 18 ∷ 19 ∷ 20 ∷ 22 ∷ 23 ∷ []
+
+unfoldable pub auth-refusals : List ℕ
+auth-refusals = 1 ∷ 2 ∷ 6 ∷ []
+
+-- a refusal of the list, with its position: for 2 one that lies beyond the message's end, else 0
+pub record Refusal (listed : List ℕ) (m : List ℕ) (number position : ℕ) : Type 0 where
+  pub is-listed : List·Memᴰ number listed
+  pub wanted : number ≡ 2 → length m < position
+  pub otherwise-0 : (number ≡ 2 → ⊥) → position ≡ 0
+
+-- whatever the message and the start, the reader refuses by the list only
+abbrev pub RefusesBy : {A : Type 0} → List ℕ → Reader A → Type 0
+RefusesBy listed r = (m : List ℕ) (s k p : ℕ) → operation r m s ≡ refused k p → Refusal listed m k p
+
+pub record Refusals : Type 0 where
+  pub of-context : (mode : Mode) (room : ℕ) → RefusesBy context-refusals (read-aad-section-into mode room)
+  pub of-find : (k : List ℕ) → RefusesBy find-refusals (find-value k)
+  pub of-keys : (max : Max) (room : ℕ) → RefusesBy keys-refusals (read-encrypted-data-keys-section-into max room)
+  pub of-body : (q : Request) → RefusesBy body-refusals (read-body q)
+  pub of-auth : (suite : ℕ) → RefusesBy auth-refusals (read-header-auth-tag suite)
