@@ -3,13 +3,16 @@ use mathlib.Core.Path.{_≡_, refl, sym, ap, _∙_}
 use mathlib.Core.Bool.{Bool, true, false, not, _&&_, _||_}
 use mathlib.Core.Logic.{_⊎_, inl, inr, ⊎-elim}
 use mathlib.Core.List.{List}
-use Prim.Native.Nat.{ℕ, zero, suc, _≤_, _<_}
+use Prim.Native.Nat.{ℕ, zero, suc, _+_, _≤_, _<_}
 use native.Mathlib.Omega.{arith}
-use lib.Dec.{eqb}
+use lib.Dec.{leb, eqb}
+use lib.ListN.{length, drop, length-drop}
 use Rattle.format.specs.Shared.{one-or-two, frame-fits}
-use Rattle.format.specs.Serialize.{same-bytes}
+use Rattle.format.specs.Read.{at}
+use Rattle.format.specs.Serialize.{read, read-at, same-bytes}
 use Rattle.format.specs.Pinned.{Decides, Pinned}
-use Rattle.format.proofs.Tests.{leb-is, is-leb, eqb-is, is-eqb, neqb-is}
+use Rattle.format.proofs.Tests.{leb-is, is-leb, nleb-is, is-nleb, eqb-is, is-eqb, neqb-is}
+use Rattle.format.proofs.Serialize.{read-fits, read-short}
 use Rattle.format.proofs.Firsts.{both}
 use Rattle.format.proofs.Grammar.{valid-octets, octets-valid}
 use Rattle.format.proofs.Suites.{in-a-row, row-of, no-third, eleven}
@@ -49,9 +52,34 @@ frames c f =
           h;
     }
 
+module _ (n : ℕ) (m : List ℕ) (s : ℕ) where
+  fits : s ≤ length m → s + n ≤ length m → at (read n) m s ≡ read-at n m s
+  unfolding at read-at
+  fits k h = rw (read-fits n (drop s m) s (simp length-drop (omega arith)), leb-is (s + n) (length m) h) refl
+
+  short : length (drop s m) < n → length m < s + n → at (read n) m s ≡ read-at n m s
+  unfolding at read-at
+  short k h = rw (read-short n (drop s m) s k, nleb-is (s + n) (length m) h) refl
+
+  some-bytes : 0 < n → at (read n) m s ≡ read-at n m s
+  some-bytes some = go (leb (s + n) (length m)) refl
+    where
+      go : (b : Bool) → leb (s + n) (length m) ≡ b → at (read n) m s ≡ read-at n m s
+      go true e = let h : s + n ≤ length m = is-leb _ _ e in fits (omega arith) h
+      go false e = let h : length m < s + n = is-nleb _ _ e in short (simp length-drop (omega arith)) h
+
+  within-the-message : s ≤ length m → at (read n) m s ≡ read-at n m s
+  within-the-message near = go (leb (s + n) (length m)) refl
+    where
+      go : (b : Bool) → leb (s + n) (length m) ≡ b → at (read n) m s ≡ read-at n m s
+      go true e = fits near (is-leb _ _ e)
+      go false e = let h : length m < s + n = is-nleb _ _ e in short (simp length-drop (omega arith)) h
+
 pub pinned : Pinned
 pinned =
     record {
+      some-bytes = some-bytes;
+      within-the-message = within-the-message;
       utf8 = λ bytes. record { then-holds = valid-octets bytes; holds-then = octets-valid };
       equal = λ a b. record { then-holds = same-equal a b; holds-then = λ e. rw (← e) (equal-same a) };
       seen-before = λ k ps. record { then-holds = seen-has k ps; holds-then = has-seen k ps };

@@ -6,7 +6,8 @@ use mathlib.Core.Logic.{_⊎_}
 use mathlib.Core.List.{List, [], _∷_, _++_, map, List·Memᴰ}
 use Prim.Native.Nat.{ℕ, _≤_, _<_}
 use lib.ListN.{length}
-use Rattle.format.specs.Serialize.{same-bytes}
+use Rattle.format.specs.Read.{at}
+use Rattle.format.specs.Serialize.{read, read-at, same-bytes}
 use Rattle.format.specs.Utf8.{Range, has, rows, valid-utf8-seq}
 use Rattle.format.specs.Shared.{one-or-two, SuiteRow, row, suites, suite-version, known, frame-fits}
 use Rattle.format.specs.Fields.{Pair, PairAt, pair-of, EncryptedDataKey}
@@ -35,6 +36,9 @@ pub record Decides (test : Bool) (P : Type 0) : Type 0 where
   pub holds-then : P → test ≡ true
 
 pub record Pinned : Type 0 where
+  -- n bytes at a place, where there is a byte to read or the place lies within the message
+  pub some-bytes : (n : ℕ) (m : List ℕ) (s : ℕ) → 0 < n → at (read n) m s ≡ read-at n m s
+  pub within-the-message : (n : ℕ) (m : List ℕ) (s : ℕ) → s ≤ length m → at (read n) m s ≡ read-at n m s
   -- the grammar of RFC 3629
   pub utf8 : (bytes : List ℕ) → Decides (valid-utf8-seq bytes) (Octets bytes)
   -- two keys are equal when their bytes are, and a key was seen when a pair has it

@@ -1,10 +1,10 @@
 -- SerializeFunctions.dfy: bytes, numbers and entries, as they are read and as they are written. Assumes nothing.
-use mathlib.Core.Bool.{Bool, true, false, _&&_}
+use mathlib.Core.Bool.{Bool, true, false, cond, _&&_}
 use mathlib.Core.List.{List, [], _∷_, _++_}
 use Prim.Native.Nat.{ℕ, zero, suc, _+_, _*_, _/_, _%_, _<_}
 use lib.Dec.{leb, eqb}
 use lib.ListN.{length, take, drop}
-use Rattle.format.specs.Read.{success, more-needed, Reader, _>>=_, _>>_, return}
+use Rattle.format.specs.Read.{success, more-needed, Reader, _>>=_, _>>_, return, Answer, accepted, refused}
 
 -- the elements of a message are bytes
 abbrev pub Bytes : List ℕ → Type 0
@@ -19,6 +19,11 @@ pub record Part : Type 0 where
 -- Read: n bytes, 0 included, where the place plus n is at most the message's length; else 2 at the place plus n
 unfoldable pub read : ℕ → Reader Part
 read n l s = elim (leb n (length l)) [ true ↦ success (record { start = s; bytes = take n l }) (drop n l) (s + n) | false ↦ more-needed (s + n) ]
+
+-- The same at a place of a message. `read` sees only the bytes that are left, so past the message's end the two differ for n = 0,
+-- and nowhere else (specs/Pinned).
+unfoldable pub read-at : ℕ → List ℕ → ℕ → Answer Part
+read-at n m s = cond (leb (s + n) (length m)) (accepted (record { start = s; bytes = take n (drop s m) }) (s + n)) (refused 2 (s + n))
 
 -- the number whose bytes stand most significant first, behind the number n
 abbrev pub number-from : ℕ → List ℕ → ℕ
