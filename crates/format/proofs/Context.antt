@@ -151,7 +151,7 @@ is-not-strict : (mode : Mode) → Allowed mode old [] → not (eqb 2 2 && is-str
 is-not-strict tolerant a = refl
 is-not-strict strict a = absurd a
 
-both-allow : (mode : Mode) (ps : List Pair) → Allowed mode today ps
+pub both-allow : (mode : Mode) (ps : List Pair) → Allowed mode today ps
 both-allow tolerant ps = tt
 both-allow strict ps = tt
 

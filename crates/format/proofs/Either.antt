@@ -77,11 +77,11 @@ module _ (max : Max) (pairRoom keyRoom : ℕ) (m : List ℕ) (s : ℕ) where
       )
 
   otherwise : Bytes m → ((form : Form) (f : Fields) → Stands max pairRoom keyRoom m s form f → ⊥)
-      → (k : ℕ) × (p : ℕ) × (said ≡ refused k p) × Refusal body-refusals m k p
+      → (k : ℕ) × (p : ℕ) × (said ≡ refused k p) × Refusal (body-refusals q) m k p
   unfolding read-header-body
   otherwise hb none = go said refl
     where
-      go : (a : Answer HeaderBody) → said ≡ a → (k : ℕ) × (p : ℕ) × (said ≡ refused k p) × Refusal body-refusals m k p
+      go : (a : Answer HeaderBody) → said ≡ a → (k : ℕ) × (p : ℕ) × (said ≡ refused k p) × Refusal (body-refusals q) m k p
       go (accepted b t) e = let z = only hb b t e in absurd (none (z .0) (z .1) (z .2))
       go (refused k p) e = (k, p, e, refusals .of-body q m s k p e)
 

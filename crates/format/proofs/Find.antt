@@ -7,14 +7,15 @@ use native.Mathlib.Omega.{arith}
 use lib.Dec.{eqb}
 use lib.ListN.{drop}
 use Rattle.format.specs.Read.{ReadResult, success, more-needed, error, Reader, go-on, _>>=_, Answer, accepted, refused, answer, operation}
-use Rattle.format.specs.Serialize.{Bytes, Part, same-bytes}
-use Rattle.format.specs.Fields.{Pair, PairAt, pair-of}
+use Rattle.format.specs.Serialize.{Bytes, Part, images, same-bytes}
+use Rattle.format.specs.Fields.{Pair, PairAt, pair-of, pair-places}
 use Rattle.format.specs.Context.{seen, write-aad-pair, tolerant, read-aad-section, look-up, find-value}
-use Rattle.format.specs.Demand3.{Has, here, there, Differ, Finds}
+use Rattle.format.specs.Demand3.{Held, Each, Has, here, there, Differ, Finds}
 use Rattle.format.proofs.Tests.{is-eqb, eqb-is}
 use Rattle.format.proofs.Firsts.{both}
 use Rattle.format.proofs.Exact.{Oks, puts, map-puts}
 use Rattle.format.proofs.Context.{NextOk, pair-at, section-exact}
+use Rattle.format.proofs.Held.{context-held}
 use Rattle.format.proofs.Messages.{accepted-took, refused-stays, accepted-goes-on}
 
 -- the test of equality holds just of equal lists
@@ -111,6 +112,16 @@ module _ (k m : List ℕ) (s : ℕ) (hb : Bytes m) where
       let same : map pair-of ps ≡ x .value .pairs = ap (map pair-of) (x .placed) ∙ map-puts write-aad-pair pair-at pair-of (λ s p. refl) _ (x .value .pairs) in
       differ [] ps (rw same (x .good .each))
 
+  value-held : (ps : List PairAt) (p : PairAt) → List·Memᴰ p ps → Each (Held m) (images pair-places ps) → Held m (p .value)
+  unfolding images
+  value-held (q ∷ ps) p (List·Memᴰ·head e) (hk, (hv, h)) = rw e hv
+  value-held (q ∷ ps) p (List·Memᴰ·tail i) (hk, (hv, h)) = value-held ps p i h
+
+  placed : (ps : List PairAt) (t : ℕ) → operation (read-aad-section tolerant) m s ≡ accepted ps t → Each (Held m) (images pair-places ps)
+  placed ps t e =
+      let (l, x) = accepted-took (section-exact tolerant) m s hb ps t e in
+      rw (x .placed) (context-held m (x .value .form) (x .value .pairs) s (record { after = l; is = x .split }))
+
   pub finds : Finds k m s
   unfolding find-value
   finds =
@@ -119,7 +130,7 @@ module _ (k m : List ℕ) (s : ℕ) (hb : Bytes m) where
         one = one;
         value = λ ps t e p h is.
             let z = accepted-goes-on (read-aad-section tolerant) (look-up k) m s ps t e in
-            z .1 ∙ ap answer (found k ps (z .0) t p h is (one ps t e));
+            (z .1 ∙ ap answer (found k ps (z .0) t p h is (one ps t e)), value-held ps p h (placed ps t e));
         none-has-it = λ ps t e n.
             let z = accepted-goes-on (read-aad-section tolerant) (look-up k) m s ps t e in
             z .1 ∙ ap answer (not-found k ps (z .0) t n);

@@ -8,6 +8,7 @@ pub mod Body
 pub mod Firsts
 pub mod Accepts
 pub mod Messages
+pub mod Writers
 pub mod Listed
 pub mod Held
 pub mod Either

@@ -9,13 +9,13 @@ use lib.Dec.{leb, eqb}
 use lib.ListN.{length, take, drop, length-drop}
 use Rattle.format.specs.Read.{ReadResult, success, more-needed, error, Reader, go-on, _>>=_, _>>_, return, test, repeat, framed, Answer, accepted, refused, answer, operation}
 use Rattle.format.specs.Serialize.{Part, read, read-uint, read-uint8, read-uint16, read-uint32, read-short-length-seq, same-bytes}
-use Rattle.format.specs.Shared.{read-message-format-version, read-esdk-suite-id, read-content-type}
+use Rattle.format.specs.Shared.{read-message-format-version, read-esdk-suite-id, read-content-type, frame-fits}
 use Rattle.format.specs.Fields.{PairAt}
-use Rattle.format.specs.Context.{Mode, tolerant, read-text, read-aad-pair, read-next-aad-pair, read-aad, read-aad-of, read-aad-section, read-aad-section-into, look-up, find-value}
+use Rattle.format.specs.Context.{Mode, tolerant, strict, read-text, read-aad-pair, read-next-aad-pair, read-aad, read-aad-of, read-aad-section, read-aad-section-into, look-up, find-value}
 use Rattle.format.specs.Keys.{Max, read-encrypted-data-key, read-encrypted-data-keys-section, read-encrypted-data-keys-section-into}
-use Rattle.format.specs.Body.{Which, read-opening-of, read-opening, read-closing-of, read-closing, Opening, Request, after-context, after-opening, read-body}
+use Rattle.format.specs.Body.{Which, either, v1-only, v2-only, read-opening-of, read-opening, read-closing-of, read-closing, Opening, Request, after-context, after-opening, read-body}
 use Rattle.format.specs.Auth.{read-header-auth-tag-of, read-header-auth-tag}
-use Rattle.format.specs.Refusals.{context-refusals, find-refusals, keys-refusals, body-refusals, auth-refusals, Refusal, RefusesBy, Refusals}
+use Rattle.format.specs.Refusals.{section-refusals, context-refusals, find-refusals, opening-refusals, closing-refusals, keys-refusals, body-refusals, auth-refusals, Refusal, RefusesBy, Refusals}
 use Rattle.format.proofs.Tests.{is-leb, is-nleb, eqb-is}
 use Rattle.format.proofs.Exact.{framed-fits, framed-short}
 use Rattle.format.proofs.Serialize.{read-fits, read-short}
@@ -38,6 +38,9 @@ module _ {A : Type 0} where
   more ks js f n (more-needed p) h = h
   more ks js f n (error k) h = f k h
 
+  listed-as : {ks js : List ℕ} {r : Reader A} → ks ≡ js → Listed ks r → Listed js r
+  listed-as e h = rw e at h
+
   pub also : (j : ℕ) {ks : List ℕ} {r : Reader A} → Listed ks r → Listed (j ∷ ks) r
   also j {ks} {r} h = record { fine = λ l s. more ks (j ∷ ks) (λ k z. List·Memᴰ·tail z) (s + length l) (r l s) (h .fine l s) }
 
@@ -58,6 +61,11 @@ module _ {A B : Type 0} where
 pub return-listed : {A : Type 0} (a : A) → Listed [] (return a)
 unfolding return
 return-listed a = record { fine = λ l s. refl }
+
+-- a test that never fails
+pub sure-listed : (k : ℕ) {b : Bool} → b ≡ true → Listed [] (test k b)
+unfolding test
+sure-listed k e = rw e (record { fine = λ l s. refl })
 
 pub test-listed : (k : ℕ) (b : Bool) → Listed (k ∷ []) (test k b)
 unfolding test
@@ -132,21 +140,32 @@ next-listed : (acc : List PairAt) → Listed (10 ∷ 11 ∷ 12 ∷ 13 ∷ []) (r
 unfolding read-next-aad-pair
 next-listed acc = bind-listed pair-listed (λ p. then-listed (test-listed 12 _) (then-listed (test-listed 13 _) (return-listed _)))
 
-aad-listed : (mode : Mode) (n : ℕ) → Listed (8 ∷ 21 ∷ 9 ∷ 10 ∷ 11 ∷ 12 ∷ 13 ∷ []) (read-aad mode n)
+never-strict : (b : Bool) → not (b && false) ≡ true
+never-strict true = refl
+never-strict false = refl
+
+pairs-listed : (n count : ℕ) → Listed (9 ∷ 10 ∷ 11 ∷ 12 ∷ 13 ∷ []) (test 9 (eqb n 2 || not (eqb count 0)) >> repeat count read-next-aad-pair [])
+pairs-listed n count = then-listed (test-listed 9 _) (repeat-listed count next-listed [])
+
+aad-tolerant : (n : ℕ) → Listed (8 ∷ 9 ∷ 10 ∷ 11 ∷ 12 ∷ 13 ∷ []) (read-aad tolerant n)
 unfolding read-aad
-aad-listed mode n =
-    bind-listed uint16-listed (λ count. then-listed (test-listed 8 _) (then-listed (test-listed 21 _) (then-listed (test-listed 9 _) (repeat-listed count next-listed []))))
+aad-tolerant n = bind-listed uint16-listed (λ count. then-listed (test-listed 8 _) (then-listed (sure-listed 21 (never-strict (eqb n 2))) (pairs-listed n count)))
 
-of-listed : (mode : Mode) (b : Bool) (n : ℕ) → Listed (8 ∷ 21 ∷ 9 ∷ 10 ∷ 11 ∷ 12 ∷ 13 ∷ 14 ∷ []) (read-aad-of mode b n)
-unfolding read-aad-of return
+aad-strict : (n : ℕ) → Listed (8 ∷ 21 ∷ 9 ∷ 10 ∷ 11 ∷ 12 ∷ 13 ∷ []) (read-aad strict n)
+unfolding read-aad
+aad-strict n = bind-listed uint16-listed (λ count. then-listed (test-listed 8 _) (then-listed (test-listed 21 _) (pairs-listed n count)))
+
+of-listed : (mode : Mode) (b : Bool) (n : ℕ) → Listed (section-refusals mode) (read-aad-of mode b n)
+unfolding read-aad-of return section-refusals
 of-listed mode true n = record { fine = λ l s. refl }
-of-listed mode false n = framed-listed n 14 (aad-listed mode n)
+of-listed tolerant false n = framed-listed n 14 (aad-tolerant n)
+of-listed strict false n = framed-listed n 14 (aad-strict n)
 
-section-listed : (mode : Mode) → Listed (8 ∷ 21 ∷ 9 ∷ 10 ∷ 11 ∷ 12 ∷ 13 ∷ 14 ∷ []) (read-aad-section mode)
+section-listed : (mode : Mode) → Listed (section-refusals mode) (read-aad-section mode)
 unfolding read-aad-section
 section-listed mode = bind-listed uint16-listed (λ n. of-listed mode (eqb n 0) n)
 
-section-into-listed : (mode : Mode) (room : ℕ) → Listed (8 ∷ 21 ∷ 9 ∷ 10 ∷ 11 ∷ 12 ∷ 13 ∷ 14 ∷ 22 ∷ []) (read-aad-section-into mode room)
+section-into-listed : (mode : Mode) (room : ℕ) → Listed (section-refusals mode ++ (22 ∷ [])) (read-aad-section-into mode room)
 unfolding read-aad-section-into
 section-into-listed mode room = bind-listed (section-listed mode) (λ ps. then-listed (test-listed 22 _) (return-listed _))
 
@@ -160,7 +179,7 @@ look-listed k (p ∷ ps) = record { fine = λ l s. go l s (same-bytes k (p .key 
     go l s true h = refl
     go l s false h = h
 
-find-listed : (k : List ℕ) → Listed (8 ∷ 21 ∷ 9 ∷ 10 ∷ 11 ∷ 12 ∷ 13 ∷ 14 ∷ 29 ∷ []) (find-value k)
+find-listed : (k : List ℕ) → Listed (section-refusals tolerant ++ (29 ∷ [])) (find-value k)
 unfolding find-value
 find-listed k = bind-listed (section-listed tolerant) (look-listed k)
 
@@ -191,9 +210,11 @@ version-listed : Listed (3 ∷ []) read-message-format-version
 unfolding read-message-format-version
 version-listed = bind-listed uint8-listed (λ v. then-listed (test-listed 3 _) (return-listed _))
 
-opening-listed : (which : Which) → Listed (3 ∷ 4 ∷ 5 ∷ 6 ∷ 7 ∷ []) (read-opening which)
-unfolding read-opening
-opening-listed which = bind-listed version-listed (λ v. then-listed (test-listed 4 _) (rest-listed (eqb v 1)))
+opening-listed : (which : Which) → Listed (opening-refusals which) (read-opening which)
+unfolding read-opening opening-refusals
+opening-listed either = bind-listed version-listed (λ v. then-listed (sure-listed 4 refl) (rest-listed (eqb v 1)))
+opening-listed v1-only = bind-listed version-listed (λ v. then-listed (test-listed 4 _) (rest-listed (eqb v 1)))
+opening-listed v2-only = bind-listed version-listed (λ v. then-listed (test-listed 4 _) (rest-listed (eqb v 1)))
 
 content-listed : Listed (17 ∷ []) read-content-type
 unfolding read-content-type
@@ -209,13 +230,29 @@ closing-listed : (v1 : Bool) → Listed (17 ∷ 18 ∷ 19 ∷ []) (read-closing 
 unfolding read-closing
 closing-listed v1 = bind-listed content-listed (λ c. closing-of-listed v1 c)
 
-after-context-listed : (q : Request) (o : Opening) (ps : List PairAt) → Listed (15 ∷ 16 ∷ 17 ∷ 18 ∷ 19 ∷ 20 ∷ 22 ∷ 23 ∷ []) (after-context q o ps)
+abbrev frames-20 : Bool → List ℕ
+frames-20 true = 20 ∷ []
+frames-20 false = []
+
+tables-listed : (p k : Bool) {A : Type 0} (a : A) → Listed (22 ∷ 23 ∷ []) (test 22 p >> (test 23 k >> return a))
+tables-listed p k a = then-listed (test-listed 22 p) (then-listed (test-listed 23 k) (return-listed a))
+
+frames-listed : (frames fits : Bool) {A : Type 0} {r : Reader A} → Listed (22 ∷ 23 ∷ []) r → Listed (frames-20 frames ++ (22 ∷ 23 ∷ [])) (test 20 (not frames || fits) >> r)
+frames-listed true fits h = then-listed (test-listed 20 _) h
+frames-listed false fits h = then-listed (sure-listed 20 refl) h
+
+joined : (frames : Bool) → (15 ∷ 16 ∷ []) ++ ((17 ∷ 18 ∷ 19 ∷ []) ++ (frames-20 frames ++ (22 ∷ 23 ∷ []))) ≡ closing-refusals frames
+unfolding closing-refusals
+joined true = refl
+joined false = refl
+
+after-context-listed : (q : Request) (o : Opening) (ps : List PairAt) → Listed (closing-refusals (q .frames)) (after-context q o ps)
 unfolding after-context
 after-context-listed q o ps =
-    bind-listed (keys-listed (q .max)) (λ ks. bind-listed (closing-listed (eqb (o .version) 1)) (λ c.
-    then-listed (test-listed 20 _) (then-listed (test-listed 22 _) (then-listed (test-listed 23 _) (return-listed _)))))
+    listed-as (joined (q .frames))
+    (bind-listed (keys-listed (q .max)) (λ ks. bind-listed (closing-listed (eqb (o .version) 1)) (λ c. frames-listed (q .frames) (frame-fits (c .contentType) (c .frameLength)) (tables-listed _ _ _))))
 
-body-listed : (q : Request) → Listed (3 ∷ 4 ∷ 5 ∷ 6 ∷ 7 ∷ 8 ∷ 21 ∷ 9 ∷ 10 ∷ 11 ∷ 12 ∷ 13 ∷ 14 ∷ 15 ∷ 16 ∷ 17 ∷ 18 ∷ 19 ∷ 20 ∷ 22 ∷ 23 ∷ []) (read-body q)
+body-listed : (q : Request) → Listed (opening-refusals (q .which) ++ (section-refusals (q .mode) ++ closing-refusals (q .frames))) (read-body q)
 unfolding read-body after-opening
 body-listed q = bind-listed (opening-listed (q .which)) (λ o. bind-listed (section-listed (q .mode)) (after-context-listed q o))
 
@@ -271,13 +308,34 @@ not-in (k ∷ ks) e h =
     no : {b : Bool} → b ≡ true → not b ≡ true → ⊥
     no e f = let z : _≡_ {A = ℕ} 0 1 = cc in omega arith
 
+-- the lists, by what was asked
+body-without-2 : (which : Which) (mode : Mode) (frames : Bool) → every-other (opening-refusals which ++ (section-refusals mode ++ closing-refusals frames)) ≡ true
+unfolding opening-refusals section-refusals closing-refusals
+body-without-2 either tolerant true = refl
+body-without-2 either tolerant false = refl
+body-without-2 either strict true = refl
+body-without-2 either strict false = refl
+body-without-2 v1-only tolerant true = refl
+body-without-2 v1-only tolerant false = refl
+body-without-2 v1-only strict true = refl
+body-without-2 v1-only strict false = refl
+body-without-2 v2-only tolerant true = refl
+body-without-2 v2-only tolerant false = refl
+body-without-2 v2-only strict true = refl
+body-without-2 v2-only strict false = refl
+
+section-without-2 : (mode : Mode) (k : ℕ) → eqb k 2 ≡ false → every-other (section-refusals mode ++ (k ∷ [])) ≡ true
+unfolding section-refusals
+section-without-2 tolerant k e = rw e refl
+section-without-2 strict k e = rw e refl
+
 pub refusals : Refusals
 unfolding context-refusals find-refusals keys-refusals body-refusals auth-refusals
 refusals =
     record {
-      of-context = λ mode room. refuses _ _ (not-in _ refl) (section-into-listed mode room);
-      of-find = λ k. refuses _ _ (not-in _ refl) (find-listed k);
+      of-context = λ mode room. refuses _ _ (not-in _ (section-without-2 mode 22 refl)) (section-into-listed mode room);
+      of-find = λ k. refuses _ _ (not-in _ (section-without-2 tolerant 29 refl)) (find-listed k);
       of-keys = λ max room. refuses _ _ (not-in _ refl) (keys-into-listed max room);
-      of-body = λ q. refuses _ _ (not-in _ refl) (body-listed q);
+      of-body = λ q. refuses _ _ (not-in _ (body-without-2 (q .which) (q .mode) (q .frames))) (body-listed q);
       of-auth = λ suite. refuses _ _ (not-in _ refl) (auth-listed suite);
     }

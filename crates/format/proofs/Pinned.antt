@@ -2,14 +2,17 @@
 use mathlib.Core.Path.{_≡_, refl, sym, ap, _∙_}
 use mathlib.Core.Bool.{Bool, true, false, not, _&&_, _||_}
 use mathlib.Core.Logic.{_⊎_, inl, inr, ⊎-elim}
-use mathlib.Core.List.{List}
+use mathlib.Core.List.{List, [], _∷_, _++_, append-assoc}
 use Prim.Native.Nat.{ℕ, zero, suc, _+_, _≤_, _<_}
 use native.Mathlib.Omega.{arith}
 use lib.Dec.{leb, eqb}
 use lib.ListN.{length, drop, length-drop}
 use Rattle.format.specs.Shared.{one-or-two, frame-fits}
 use Rattle.format.specs.Read.{at}
-use Rattle.format.specs.Serialize.{read, read-at, same-bytes}
+use Rattle.format.specs.Serialize.{read, read-at, images, same-bytes}
+use Rattle.format.specs.Fields.{Pair, EncryptedDataKey}
+use Rattle.format.specs.Context.{write-aad-pair, write-aad-pairs}
+use Rattle.format.specs.Keys.{write-encrypted-data-key, write-encrypted-data-keys}
 use Rattle.format.specs.Pinned.{Decides, Pinned}
 use Rattle.format.proofs.Tests.{leb-is, is-leb, nleb-is, is-nleb, eqb-is, is-eqb, neqb-is}
 use Rattle.format.proofs.Serialize.{read-fits, read-short}
@@ -52,6 +55,19 @@ frames c f =
           h;
     }
 
+images-join : {A : Type 0} (f : A → List ℕ) (xs ys : List A) → images f (xs ++ ys) ≡ images f xs ++ images f ys
+unfolding images
+images-join f [] ys = refl
+images-join f (x ∷ xs) ys = rw (images-join f xs ys, append-assoc (f x) (images f xs) (images f ys)) refl
+
+pairs-join : (ps qs : List Pair) → write-aad-pairs (ps ++ qs) ≡ write-aad-pairs ps ++ write-aad-pairs qs
+unfolding write-aad-pairs
+pairs-join = images-join write-aad-pair
+
+keys-join : (ks js : List EncryptedDataKey) → write-encrypted-data-keys (ks ++ js) ≡ write-encrypted-data-keys ks ++ write-encrypted-data-keys js
+unfolding write-encrypted-data-keys
+keys-join = images-join write-encrypted-data-key
+
 module _ (n : ℕ) (m : List ℕ) (s : ℕ) where
   fits : s ≤ length m → s + n ≤ length m → at (read n) m s ≡ read-at n m s
   unfolding at read-at
@@ -92,4 +108,6 @@ pinned =
       maximum = λ n max. record { then-holds = is-leb n max; holds-then = leb-is n max };
       no-maximum = λ n. refl;
       pairs-take = length-pairs;
+      pairs-join = pairs-join;
+      keys-join = keys-join;
     }

@@ -5,6 +5,7 @@ use mathlib.Core.Option.{none}
 use mathlib.Core.List.{List, [], _∷_, _++_, append-nil, map}
 use Prim.Native.Nat.{ℕ, _+_, _*_, _-_, _≤_, _<_}
 use native.Mathlib.Omega.{arith}
+use native.Mathlib.Nat.{zero-add}
 use lib.Dec.{leb, eqb}
 use lib.ListN.{length, drop, replicate, length-append, length-drop}
 use Rattle.format.specs.Read.{Reader, success, _>>=_, _>>_, return, test, accepted, operation}
@@ -12,21 +13,23 @@ use Rattle.format.specs.Serialize.{Bytes, images, write-uint16}
 use Rattle.format.specs.Shared.{suites, version-in, SuiteRow, suite-version, known, iv-length, tag-length}
 use Rattle.format.specs.Fields.{Pair, PairAt, pair-of, pair-places, EncryptedDataKey, EncryptedDataKeyAt, key-of, key-places}
 use Rattle.format.specs.Context.{Form, today, old, section-in, write-aad-section, write-expanded-aad-section, write-aad-pair, Mode, read-aad-section-into}
-use Rattle.format.specs.Keys.{Max, write-encrypted-data-key, write-encrypted-data-keys-section, read-encrypted-data-keys-section-into}
+use Rattle.format.specs.Keys.{Max, within, write-encrypted-data-key, write-encrypted-data-keys-section, read-encrypted-data-keys-section-into}
 use Rattle.format.specs.Auth.{HeaderAuth, zeros, read-header-auth-tag-of, read-header-auth-tag, write-header-auth-tag}
 use Rattle.format.specs.Checks.{first, pairs-checks, keys-checks, auth-checks}
+use Rattle.format.specs.Lent.{filled, pairs-in, keys-in, table-checks, Writing, written, output-after, writing-aad-section, writing-encrypted-data-keys-section}
 use Rattle.format.specs.Demand3.{Held, Each}
 use Rattle.format.specs.Sections.{ContextStands, ContextLaw, KeysStand, KeysLaw, AuthStands, AuthLaw, SectionLaws}
 use Rattle.format.proofs.Tests.{leb-is, is-leb, eqb-is, is-eqb}
 use Rattle.format.proofs.Exact.{Took, Exact, seq-exact, check-exact, check-as, give-exact, revalue, length-puts, map-puts}
 use Rattle.format.proofs.Serialize.{read-exact}
-use Rattle.format.proofs.Context.{pair-at, Context, ContextOk, context-bytes, context-at, section-exact}
+use Rattle.format.proofs.Context.{pair-at, Context, ContextOk, context-bytes, context-at, both-allow, section-exact}
 use Rattle.format.proofs.Keys.{key-at, KeysOk, keys-at, keys-exact}
 use Rattle.format.proofs.Suites.{version-2}
-use Rattle.format.proofs.Firsts.{Holds, holds, unheld}
+use Rattle.format.proofs.Firsts.{Holds, holds, unheld, split}
 use Rattle.format.proofs.Accepts.{pairs-then, then-pairs, keys-then, then-keys}
 use Rattle.format.proofs.Messages.{accepted-took, operation-here}
 use Rattle.format.proofs.Held.{context-held, keys-held}
+use Rattle.format.proofs.Writers.{writer-law}
 
 -- what stands at a start of a short message, and is not empty, starts within it
 start-fits : (m : List ℕ) (s : ℕ) (b after : List ℕ) → 0 < length b → length m ≤ 4294967295 → drop s m ≡ b ++ after → s ≤ 4294967295
@@ -40,6 +43,10 @@ module _ {A W : Type 0} {r : Reader A} {ok : W → Type 0} {img : W → List ℕ
   reads : (m : List ℕ) (s : ℕ) → length m ≤ 4294967295 → s ≤ 4294967295 → (w : W) → ok w → (after : List ℕ) → drop s m ≡ img w ++ after
       → operation r m s ≡ accepted (put s w) (s + length (img w))
   reads m s fits near w o after e = rw (operation-here r m s fits near, e, h .complete w s after o) refl
+
+  -- and what stands at the front of it
+  reads-front : (w : W) (after : List ℕ) → length (img w ++ after) ≤ 4294967295 → ok w → operation r (img w ++ after) 0 ≡ accepted (put 0 w) (length (img w))
+  reads-front w after fits o = reads (img w ++ after) 0 fits (omega arith) w o after refl ∙ ap (accepted (put 0 w)) (zero-add (length (img w)))
 
 -- the context section
 record ContextRoom (mode : Mode) (room : ℕ) (c : Context) : Type 0 where
@@ -78,12 +85,13 @@ context-law mode room m s hb = record { only = only; all = all }
 
     all : length m ≤ 4294967295 → (form : Form) (ps : List Pair) → ContextStands mode room m s form ps
         → (places : List PairAt) × (operation (read-aad-section-into mode room) m s ≡ accepted places (s + length (section-in form ps))) × (map pair-of places ≡ ps)
+        × Each (Held m) (images pair-places places)
     all fits form ps h =
         let c : Context = record { form = form; pairs = ps } in
         let p = pairs-then ps (holds (pairs-checks ps) (h .accepts)) in
         let o : ContextRoom mode room c = record { context = record { allowed = h .allowed; few = p .0; each = p .1 }; t22 = leb-is _ _ (h .held) } in
         let near : s ≤ 4294967295 = start-fits m s (section-in form ps) (h .after) (section-not-empty form ps) fits (h .bytes) in
-        (context-at s c, reads (section-into-exact mode room) m s fits near c o (h .after) (h .bytes), map-puts write-aad-pair pair-at pair-of (λ s p. refl) (s + 4) ps)
+        (context-at s c, reads (section-into-exact mode room) m s fits near c o (h .after) (h .bytes), map-puts write-aad-pair pair-at pair-of (λ s p. refl) (s + 4) ps, context-held m form ps s (record { after = h .after; is = h .bytes }))
 
 -- the key section
 record KeysRoom (max : Max) (room : ℕ) (ks : List EncryptedDataKey) : Type 0 where
@@ -119,12 +127,12 @@ keys-law max room m s hb = record { only = only; all = all }
 
     all : length m ≤ 4294967295 → (ks : List EncryptedDataKey) → KeysStand max room m s ks
         → (places : List EncryptedDataKeyAt) × (operation (read-encrypted-data-keys-section-into max room) m s ≡ accepted places (s + length (write-encrypted-data-keys-section ks)))
-        × (map key-of places ≡ ks)
+        × (map key-of places ≡ ks) × Each (Held m) (images key-places places)
     all fits ks h =
         let k = keys-then ks (holds (keys-checks ks) (h .accepts)) in
         let o : KeysRoom max room ks = record { keys = record { few = k .0; below = h .max-not-passed; each = k .1 }; t23 = leb-is _ _ (h .held) } in
         let near : s ≤ 4294967295 = start-fits m s (write-encrypted-data-keys-section ks) (h .after) (keys-not-empty ks) fits (h .bytes) in
-        (keys-at s ks, reads (keys-into-exact max room) m s fits near ks o (h .after) (h .bytes), map-puts write-encrypted-data-key key-at key-of (λ s k. refl) (s + 2) ks)
+        (keys-at s ks, reads (keys-into-exact max room) m s fits near ks o (h .after) (h .bytes), map-puts write-encrypted-data-key key-at key-of (λ s k. refl) (s + 2) ks, keys-held m ks s (record { after = h .after; is = h .bytes }))
 
 -- the authentication record; true: version 1
 record AuthOk (v1 : Bool) (a : HeaderAuth) : Type 0 where
@@ -155,6 +163,10 @@ auth-exact : (suite : ℕ) → Exact (read-header-auth-tag suite) (λ a. (known 
 unfolding read-header-auth-tag
 auth-exact suite = check-exact 6 _ (auth-of-exact _)
 
+auth-not-empty : (v1 : Bool) (a : HeaderAuth) → length (a .headerAuthTag) ≡ 16 → 0 < length (auth-bytes v1 a)
+auth-not-empty true a e = simp length-append (omega arith)
+auth-not-empty false a e = omega arith
+
 auth-law : (suite : ℕ) (m : List ℕ) (s : ℕ) → Bytes m → AuthLaw suite m s
 unfolding auth-checks write-header-auth-tag
 auth-law suite m s hb =
@@ -166,10 +178,47 @@ auth-law suite m s hb =
             rw same (record { accepts = unheld (auth-checks suite (length (x .value .headerIv)) (length (x .value .headerAuthTag))) (k, (eqb-is _ _ (o .iv), (eqb-is _ _ (o .tag), tt))); iv-of-version-2 = λ v. o .zero (rw v refl); after = l; bytes = x .split }),
             rw same (x .tail),
           );
-      all = λ fits near a h.
+      all = λ fits a h.
           let (k, (i, (t, u))) = holds (auth-checks suite (length (a .headerIv)) (length (a .headerAuthTag))) (h .accepts) in
+          let near : s ≤ 4294967295 = start-fits m s (auth-bytes (eqb (suite-version suite) 1) a) (h .after) (auth-not-empty (eqb (suite-version suite) 1) a (is-eqb _ _ t)) fits (h .bytes) in
           reads (auth-exact suite) m s fits near a (k, record { iv = is-eqb _ _ i; tag = is-eqb _ _ t; zero = λ e. h .iv-of-version-2 (version-2 suite k e) }) (h .after) (h .bytes);
     }
 
+-- a section that was written is read back, by the laws of its reader
+module _ (text table out : List ℕ) where
+  pairs-back : (n : ℕ) → written (writing-aad-section text table) out ≡ accepted tt n → length out ≤ 4294967295 → (mode : Mode) (room : ℕ) → 4 * length (pairs-in text table) ≤ room
+      → (places : List PairAt) × (operation (read-aad-section-into mode room) (output-after (writing-aad-section text table) out) 0 ≡ accepted places n) × (map pair-of places ≡ pairs-in text table)
+  unfolding writing-aad-section
+  pairs-back n e fits mode room h =
+      let w = writing-aad-section text table in
+      let ps = pairs-in text table in
+      let (c, d, r, o) = writer-law w out .only-then n e in
+      let long : length (filled (w .image) out) ≡ length out = ap length (sym o) ∙ writer-law w out .as-long in
+      let p = pairs-then ps (split (table-checks 4 text table) (pairs-checks ps) (holds (w .checks) c) .1) in
+      let x : Context = record { form = today; pairs = ps } in
+      let ok : ContextRoom mode room x = record { context = record { allowed = both-allow mode ps; few = p .0; each = p .1 }; t22 = leb-is _ _ h } in
+      rw (o, d) (context-at 0 x, reads-front (section-into-exact mode room) x (drop (length (w .image)) out) (rw long fits) ok, map-puts write-aad-pair pair-at pair-of (λ s p. refl) (0 + 4) ps)
+
+  keys-back : (n : ℕ) → written (writing-encrypted-data-keys-section text table) out ≡ accepted tt n → length out ≤ 4294967295 → (max : Max) (room : ℕ) → 6 * length (keys-in text table) ≤ room
+      → within (length (keys-in text table)) max ≡ true
+      → (places : List EncryptedDataKeyAt) × (operation (read-encrypted-data-keys-section-into max room) (output-after (writing-encrypted-data-keys-section text table) out) 0 ≡ accepted places n)
+      × (map key-of places ≡ keys-in text table)
+  unfolding writing-encrypted-data-keys-section
+  keys-back n e fits max room h b =
+      let w = writing-encrypted-data-keys-section text table in
+      let ks = keys-in text table in
+      let (c, d, r, o) = writer-law w out .only-then n e in
+      let long : length (filled (w .image) out) ≡ length out = ap length (sym o) ∙ writer-law w out .as-long in
+      let k = keys-then ks (split (table-checks 6 text table) (keys-checks ks) (holds (w .checks) c) .1) in
+      let ok : KeysRoom max room ks = record { keys = record { few = k .0; below = b; each = k .1 }; t23 = leb-is _ _ h } in
+      rw (o, d) (keys-at 0 ks, reads-front (keys-into-exact max room) ks (drop (length (w .image)) out) (rw long fits) ok, map-puts write-encrypted-data-key key-at key-of (λ s k. refl) (0 + 2) ks)
+
 pub section-laws : SectionLaws
-section-laws = record { context = context-law; keys = keys-law; auth = auth-law }
+section-laws =
+    record {
+      writers = writer-law;
+      read-back = λ text table out. record { pairs = pairs-back text table out; keys = keys-back text table out };
+      context = context-law;
+      keys = keys-law;
+      auth = auth-law;
+    }

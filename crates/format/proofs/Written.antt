@@ -21,6 +21,7 @@ use Rattle.format.proofs.Tests.{leb-is, is-leb}
 use Rattle.format.proofs.Firsts.{Holds, holds, unheld, split, join}
 use Rattle.format.proofs.Serialize.{length-uint16}
 use Rattle.format.proofs.Either.{all}
+use Rattle.format.proofs.Writers.{writer-law}
 
 same-section : (ps : List Pair) → (ps ≡ [] → ⊥) → section-in old ps ≡ section-in today ps
 unfolding write-aad-section
@@ -50,28 +51,6 @@ longer f e =
 same-images : (f : Fields) → Images f
 unfolding image
 same-images f = record { alike = λ h. rw (same-section (f .pairs) h) refl; two-longer = longer f }
-
--- a writer's refusal is none just where its checks hold and the image fits
-module _ (w : Writing) (out : List ℕ) where
-  none-then : first (w .checks) ≡ none → length (w .image) ≤ length out → refusal-of w out ≡ none
-  unfolding refusal-of
-  none-then e h = unheld (w .checks ++ (check 28 (leb (length (w .image)) (length out)) ∷ [])) (join (w .checks) (check 28 (leb (length (w .image)) (length out)) ∷ []) (holds (w .checks) e) (leb-is _ _ h, tt))
-
-  then-none : refusal-of w out ≡ none → Holds (w .checks) × (length (w .image) ≤ length out)
-  unfolding refusal-of
-  then-none e =
-      let (a, b) = split (w .checks) (check 28 (leb (length (w .image)) (length out)) ∷ []) (holds (w .checks ++ (check 28 (leb (length (w .image)) (length out)) ∷ [])) e) in
-      (a, is-leb _ _ (b .0))
-
-  accepted-then : (n : ℕ) → written w out ≡ accepted tt n → (refusal-of w out ≡ none) × (n ≡ length (w .image))
-  accepted-then n e = go (refusal-of w out) refl e
-    where
-      go : (o : Option ℕ) → refusal-of w out ≡ o → written-of o (w .image) ≡ accepted tt n → (refusal-of w out ≡ none) × (n ≡ length (w .image))
-      go none q e = (q, cc)
-      go (some k) q e = let z : _≡_ {A = ℕ} 0 1 = cc in absurd (omega arith)
-
-  output-then : refusal-of w out ≡ none → output-after w out ≡ filled (w .image) out
-  output-then e = rw e refl
 
 -- checks in front of the pairs' and of the keys', and those without them
 module _ (o p ps k ks c : List Check) where
@@ -117,8 +96,7 @@ module _ (w : BodyToWrite) (out : List ℕ) where
       let p₂₆ = table-checks 4 (w .text) (w .pairTable) in
       let k₂₆ = table-checks 6 (w .text) (w .keyTable) in
       let all-hold = with-26 p₂₆ k₂₆ f (holds p₂₆ p) (holds k₂₆ k) (holds (body-checks [] [] f) (a .none-applies)) in
-      let e : refusal-of (writing-header-body w) out ≡ none = none-then (writing-header-body w) out (unheld (body-checks p₂₆ k₂₆ f) all-hold) h in
-      (rw e refl, rw e refl)
+      writer-law (writing-header-body w) out .writes (unheld (body-checks p₂₆ k₂₆ f) all-hold) h
 
   frame-is : fields-to-write w .frameLength ≡ w .frameLength
   unfolding fields-to-write
@@ -128,13 +106,11 @@ module _ (w : BodyToWrite) (out : List ℕ) where
       → Accepts (fields-to-write w) × (n ≡ length img) × (n ≤ length out) × (output-after (writing-header-body w) out ≡ filled img out)
   unfolding writing-header-body
   only-then n wide e =
-      let (o, d) = accepted-then (writing-header-body w) out n e in
-      let (h, room) = then-none (writing-header-body w) out o in
-      (record { none-applies = unheld (body-checks [] [] (fields-to-write w)) (without-26 (table-checks 4 (w .text) (w .pairTable)) (table-checks 6 (w .text) (w .keyTable)) (fields-to-write w) h); frame-is-32-bits = rw frame-is wide }, d, rw d room, output-then (writing-header-body w) out o)
-
-  -- a filled output is as long as it was
-  length-filled : (front : List ℕ) → length front ≤ length out → length (filled front out) ≡ length out
-  length-filled front h = let p = length-append front (drop (length front) out) in let q = length-drop (length front) out in omega arith
+      let f = fields-to-write w in
+      let p₂₆ = table-checks 4 (w .text) (w .pairTable) in
+      let k₂₆ = table-checks 6 (w .text) (w .keyTable) in
+      let (c, d, room, o) = writer-law (writing-header-body w) out .only-then n e in
+      (record { none-applies = unheld (body-checks [] [] f) (without-26 p₂₆ k₂₆ f (holds (body-checks p₂₆ k₂₆ f) c)); frame-is-32-bits = rw frame-is wide }, d, room, o)
 
   read-back : (n : ℕ) → w .frameLength < 4294967296 → written (writing-header-body w) out ≡ accepted tt n → length out ≤ 4294967295
       → (max : Max) (pairRoom keyRoom : ℕ) → 4 * length (fields-to-write w .pairs) ≤ pairRoom → 6 * length (fields-to-write w .keys) ≤ keyRoom
@@ -143,7 +119,7 @@ module _ (w : BodyToWrite) (out : List ℕ) where
       × Gives (output-after (writing-header-body w) out) b (fields-to-write w)
   read-back n wide e fits max pairRoom keyRoom hp hk hm =
       let (a, d, room, o) = only-then n wide e in
-      let long : length (filled img out) ≡ length out = length-filled img (rw (← d) room) in
+      let long : length (filled img out) ≡ length out = ap length (sym o) ∙ writer-law (writing-header-body w) out .as-long in
       let z = all max pairRoom keyRoom (filled img out) 0 (rw long fits) today (fields-to-write w)
       (record { accepts = a; after = drop (length img) out; bytes = refl; pairs-held = hp; keys-held = hk; max-not-passed = hm }) in
       rw (o, d) (z .0, rw zero-add at (z .1), z .2)

@@ -6,7 +6,7 @@ use lib.Dec.{leb, eqb}
 use lib.ListN.{length}
 use Rattle.format.specs.Read.{Reader, _>>=_, _>>_, return, test}
 use Rattle.format.specs.Serialize.{Part, read, read-uint8, read-uint32, write-uint16, write-uint32}
-use Rattle.format.specs.Shared.{read-message-format-version, read-esdk-suite-id, read-content-type, frame-fits}
+use Rattle.format.specs.Shared.{id-length, iv-length, commit-key-length, read-message-format-version, read-esdk-suite-id, read-content-type, frame-fits}
 use Rattle.format.specs.Fields.{PairAt, EncryptedDataKeyAt, Fields, HeaderBody}
 use Rattle.format.specs.Context.{Mode, tolerant, strict, Form, section-in, read-aad-section}
 use Rattle.format.specs.Keys.{Max, write-encrypted-data-keys-section, read-encrypted-data-keys-section}
@@ -33,11 +33,11 @@ read-opening-of true = do
   messageType ← read-uint8
   test 5 (eqb messageType 0x80)
   suite ← read-esdk-suite-id 1
-  messageId ← read 16
+  messageId ← read (id-length 1)
   return (record { version = 1; messageType = messageType; suite = suite; messageId = messageId })
 read-opening-of false = do
   suite ← read-esdk-suite-id 2
-  messageId ← read 32
+  messageId ← read (id-length 2)
   return (record { version = 2; messageType = 0; suite = suite; messageId = messageId })
 
 unfoldable pub read-opening : Which → Reader Opening
@@ -59,12 +59,12 @@ read-closing-of true content = do
   reserved ← read-uint32
   test 18 (eqb reserved 0)
   iv ← read-uint8
-  test 19 (eqb iv 12)
+  test 19 (eqb iv iv-length)
   frame ← read-uint32
   return (record { contentType = content; headerIvLength = iv; frameLength = frame; suiteData = record { start = 0; bytes = [] } })
 read-closing-of false content = do
   frame ← read-uint32
-  suiteData ← read 32
+  suiteData ← read commit-key-length
   return (record { contentType = content; headerIvLength = 0; frameLength = frame; suiteData = suiteData })
 
 unfoldable pub read-closing : Bool → Reader Closing

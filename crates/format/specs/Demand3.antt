@@ -11,7 +11,7 @@ use Rattle.format.specs.Shared.{by}
 use Rattle.format.specs.Fields.{PairAt, Fields, HeaderBody, fields-of, pair-places, key-places}
 use Rattle.format.specs.Context.{Form, today, old, Mode, tolerant, strict, read-aad-section, find-value}
 use Rattle.format.specs.Keys.{Max, within}
-use Rattle.format.specs.Body.{Which, either, v1-only, v2-only, Opening, read-opening, read-header-body, read-header-body-untested, image}
+use Rattle.format.specs.Body.{Which, either, v1-only, v2-only, Opening, read-opening, request, read-header-body, read-header-body-untested, image}
 use Rattle.format.specs.Checks.{Accepts, first}
 use Rattle.format.specs.Refusals.{Refusal, body-refusals}
 use Rattle.format.specs.Lent.{bytes-at, filled, table-checks, BodyToWrite, fields-to-write, writing-header-body, written, output-after, pair-table-after, key-table-after}
@@ -71,7 +71,7 @@ pub record Sentence1 (max : Max) (pairRoom keyRoom : ℕ) (m : List ℕ) (s : �
   pub all : length m ≤ 4294967295 → (form : Form) (f : Fields) → Stands max pairRoom keyRoom m s form f
       → (b : HeaderBody) × (operation (read-header-body either tolerant max pairRoom keyRoom) m s ≡ accepted b (s + length (image form f))) × Gives m b f
   pub otherwise : length m ≤ 4294967295 → ((form : Form) (f : Fields) → Stands max pairRoom keyRoom m s form f → ⊥)
-      → (k : ℕ) × (p : ℕ) × (operation (read-header-body either tolerant max pairRoom keyRoom) m s ≡ refused k p) × Refusal body-refusals m k p
+      → (k : ℕ) × (p : ℕ) × (operation (read-header-body either tolerant max pairRoom keyRoom) m s ≡ refused k p) × Refusal (body-refusals (request either tolerant true max pairRoom keyRoom)) m k p
   pub longer : 4294967295 < length m → operation (read-header-body either tolerant max pairRoom keyRoom) m s ≡ refused 1 0
 
 -- SENTENCE 2. On every message, with the same start, tables and maximum, the strict reader answers as the tolerant one, alike in
@@ -132,7 +132,7 @@ pub record Finds (k m : List ℕ) (s : ℕ) : Type 0 where
   pub refuses : (j p : ℕ) → operation (read-aad-section tolerant) m s ≡ refused j p → operation (find-value k) m s ≡ refused j p
   pub one : (ps : List PairAt) (t : ℕ) → operation (read-aad-section tolerant) m s ≡ accepted ps t → Differ ps
   pub value : (ps : List PairAt) (t : ℕ) → operation (read-aad-section tolerant) m s ≡ accepted ps t → (p : PairAt) → List·Memᴰ p ps → k ≡ p .key .bytes
-      → operation (find-value k) m s ≡ accepted (p .value) t
+      → (operation (find-value k) m s ≡ accepted (p .value) t) × Held m (p .value)
   pub none-has-it : (ps : List PairAt) (t : ℕ) → operation (read-aad-section tolerant) m s ≡ accepted ps t → (Has k ps → ⊥) → operation (find-value k) m s ≡ refused 29 0
 
 -- DEMAND 3, whole

@@ -9,22 +9,26 @@ use lib.Dec.{eqb}
 use lib.ListN.{take, drop}
 use Rattle.format.specs.Read.{operation}
 use Rattle.format.specs.Serialize.{every}
-use Rattle.format.specs.Fields.{Fields}
-use Rattle.format.specs.Context.{Mode, tolerant, strict, today, read-aad-section-into, find-value}
+use Rattle.format.specs.Context.{Mode, tolerant, strict, read-aad-section-into, look-up, find-value}
 use Rattle.format.specs.Keys.{no-max, at-most, read-encrypted-data-keys-section-into}
-use Rattle.format.specs.Body.{Which, either, v1-only, v2-only, read-header-body, image}
+use Rattle.format.specs.Body.{Which, either, v1-only, v2-only, read-header-body}
 use Rattle.format.specs.Auth.{read-header-auth-tag, read-header-auth-tag-of, write-header-auth-tag, zeros}
 use Rattle.format.specs.Checks.{auth-checks}
-use Rattle.format.specs.Lent.{place, pair-numbers, key-numbers, items, part-in, in-text, table-checks, Writing, refusal-of, BodyToWrite, fields-to-write, writing-aad-section, writing-encrypted-data-keys-section, writing-header-body, writing-header-auth-tag}
-use Rattle.format.specs.Cases.{Expected, refuses, shortage-at, is, body-numbers, H, opened, laid-out}
+use Rattle.format.specs.Lent.{pair-numbers, key-numbers, items, part-in, in-text, table-checks, Writing, refusal-of, fields-to-write, writing-aad-section, writing-encrypted-data-keys-section, writing-header-body, writing-header-auth-tag}
+use Rattle.format.specs.Cases.{Expected, accepts, refuses, shortage-at, is, body-numbers, H, opened, laid-out}
+use Rattle.format.specs.Headers.{bytes-from, V2}
 
 pub data Fault : Type 0 where
   -- a context section of a mode, with a table of so many numbers
   section : Mode → ℕ → List ℕ → Expected → Fault
+  -- a value's key, in a context section
+  find : List ℕ → List ℕ → Expected → Fault
   -- a key section, at most one key, with a table of so many numbers
   keys : ℕ → List ℕ → Expected → Fault
   -- a body, at a start, with tables of so many numbers each
   body : Which → ℕ → ℕ → List ℕ → ℕ → Expected → Fault
+  -- a body read strictly, with no tables
+  strictly : List ℕ → Expected → Fault
   -- an authentication record of a suite, at a start
   auth : ℕ → List ℕ → ℕ → Expected → Fault
   -- a writer's call, into an output of no bytes
@@ -39,8 +43,10 @@ no-numbers a = []
 
 unfoldable pub answered : Fault → Bool
 answered (section mode room m want) = is pair-numbers (operation (read-aad-section-into mode room) m 0) want
+answered (find k m want) = is no-numbers (operation (find-value k) m 0) want
 answered (keys room m want) = is key-numbers (operation (read-encrypted-data-keys-section-into (at-most 1) room) m 0) want
 answered (body which pairRoom keyRoom m s want) = is body-numbers (operation (read-header-body which tolerant no-max pairRoom keyRoom) m s) want
+answered (strictly m want) = is body-numbers (operation (read-header-body either strict no-max 0 0) m 0) want
 answered (auth suite m s want) = is no-numbers (operation (read-header-auth-tag suite) m s) want
 answered (write w k) = none-else (refusal-of w []) k
 
@@ -88,6 +94,19 @@ faults =
     ∷ body v1-only 0 0 (before-closing (0x02 ∷ 0x00 ∷ 0x00 ∷ 0x00 ∷ 0x00 ∷ 0x0C ∷ 0x00 ∷ 0x00 ∷ 0x00 ∷ 0x00 ∷ [])) 0 (refuses 22 0)
     ∷ body either 3 5 H 0 (refuses 22 0)
     ∷ body either 4 5 H 0 (refuses 23 0)
+    ∷ body either 0 0 (take 20 H ++ (0x00 ∷ 0x02 ∷ 0x00 ∷ 0x01 ∷ 0xFF ∷ [])) 0 (refuses 8 0)
+    ∷ body either 0 0 (take 34 H ++ (0x00 ∷ 0x01 ∷ 0x00 ∷ 0x01 ∷ 0xFF ∷ 0x00 ∷ 0x00 ∷ 0x00 ∷ 0x00 ∷ 0x03 ∷ [])) 0 (refuses 16 0)
+    ∷ body either 0 0 (take 55 V2) 0 (shortage-at 56)
+    ∷ body either 0 0 (take 55 V2 ++ (0x02 ∷ 0x00 ∷ 0x00 ∷ 0x00 ∷ [])) 0 (shortage-at 60)
+    ∷ body either 0 0 (take 55 V2 ++ (0x02 ∷ 0x00 ∷ 0x00 ∷ 0x00 ∷ 0x00 ∷ [])) 0 (shortage-at 92)
+    ∷ body either 0 0 (take 55 V2 ++ (0x02 ∷ drop 56 V2)) 0 (refuses 20 0)
+    ∷ strictly (take 20 H ++ (0x00 ∷ 0x02 ∷ 0x00 ∷ 0x00 ∷ [])) (refuses 21 0)
+    ∷ strictly (take 20 H ++ (0x00 ∷ 0x02 ∷ 0x00 ∷ 0x01 ∷ [])) (refuses 8 0)
+    -- find a value
+    ∷ find (0x61 ∷ []) (0x00 ∷ 0x07 ∷ 0x00 ∷ 0x01 ∷ 0x00 ∷ 0x00 ∷ 0x00 ∷ 0x00 ∷ 0x00 ∷ []) (refuses 14 0)
+    ∷ find (0x61 ∷ []) (0x00 ∷ 0x02 ∷ 0x00 ∷ 0x00 ∷ []) (refuses 29 0)
+    ∷ find (0x6C ∷ 0x61 ∷ []) (take 14 (drop 20 H)) (refuses 29 0)
+    ∷ find (0x6C ∷ 0x61 ∷ 0x6E ∷ 0x67 ∷ []) (take 14 (drop 20 H)) (accepts 14 [])
     -- read a context section
     ∷ section strict 0 (0x00 ∷ 0x02 ∷ 0x00 ∷ 0x01 ∷ []) (refuses 8 0)
     ∷ section strict 0 (0x00 ∷ 0x03 ∷ 0x00 ∷ 0x00 ∷ []) (shortage-at 5)
@@ -140,5 +159,5 @@ faults =
     ∷ []
 
 pub first-fault : every answered faults ≡ true
-unfolding opened laid-out faults answered is H body-numbers zeros read-encrypted-data-keys-section-into read-header-auth-tag-of read-header-auth-tag write-header-auth-tag auth-checks items part-in in-text table-checks refusal-of fields-to-write writing-aad-section writing-encrypted-data-keys-section writing-header-body writing-header-auth-tag
+unfolding opened laid-out faults answered is H V2 bytes-from body-numbers look-up find-value zeros read-encrypted-data-keys-section-into read-header-auth-tag-of read-header-auth-tag write-header-auth-tag auth-checks items part-in in-text table-checks refusal-of fields-to-write writing-aad-section writing-encrypted-data-keys-section writing-header-body writing-header-auth-tag
 first-fault = refl

@@ -15,4 +15,5 @@ pub mod Sections
 pub mod Pinned
 pub mod Cases
 pub mod Texts
+pub mod Headers
 pub mod Faults

@@ -1,25 +1,43 @@
--- The refusals that each reading operation can answer, in the order in which they are tested. Assumes nothing.
+-- The refusals that each reading operation can answer: 1; 2, which each part in turn may answer; then the others in the order in
+-- which they are tested. Assumes nothing.
 use mathlib.Core.Path.{_≡_}
-use mathlib.Core.List.{List, [], _∷_, List·Memᴰ}
+use mathlib.Core.Bool.{Bool, true, false}
+use mathlib.Core.List.{List, [], _∷_, _++_, List·Memᴰ}
 use Prim.Native.Nat.{ℕ, _<_}
 use lib.ListN.{length}
 use Rattle.format.specs.Read.{Reader, operation, refused}
-use Rattle.format.specs.Context.{Mode, read-aad-section-into, find-value}
+use Rattle.format.specs.Context.{Mode, tolerant, strict, read-aad-section-into, find-value}
 use Rattle.format.specs.Keys.{Max, read-encrypted-data-keys-section-into}
-use Rattle.format.specs.Body.{Request, read-body}
+use Rattle.format.specs.Body.{Which, either, v1-only, v2-only, Request, read-body}
 use Rattle.format.specs.Auth.{read-header-auth-tag}
 
-unfoldable pub context-refusals : List ℕ
-context-refusals = 1 ∷ 2 ∷ 8 ∷ 21 ∷ 9 ∷ 10 ∷ 11 ∷ 12 ∷ 13 ∷ 14 ∷ 22 ∷ []
+-- only the strict mode answers 21
+unfoldable pub section-refusals : Mode → List ℕ
+section-refusals tolerant = 8 ∷ 9 ∷ 10 ∷ 11 ∷ 12 ∷ 13 ∷ 14 ∷ []
+section-refusals strict = 8 ∷ 21 ∷ 9 ∷ 10 ∷ 11 ∷ 12 ∷ 13 ∷ 14 ∷ []
+
+unfoldable pub context-refusals : Mode → List ℕ
+context-refusals mode = 1 ∷ 2 ∷ (section-refusals mode ++ (22 ∷ []))
 
 unfoldable pub find-refusals : List ℕ
-find-refusals = 1 ∷ 2 ∷ 8 ∷ 21 ∷ 9 ∷ 10 ∷ 11 ∷ 12 ∷ 13 ∷ 14 ∷ 29 ∷ []
+find-refusals = 1 ∷ 2 ∷ (section-refusals tolerant ++ (29 ∷ []))
 
 unfoldable pub keys-refusals : List ℕ
 keys-refusals = 1 ∷ 2 ∷ 15 ∷ 16 ∷ 23 ∷ []
 
-unfoldable pub body-refusals : List ℕ
-body-refusals = 1 ∷ 2 ∷ 3 ∷ 4 ∷ 5 ∷ 6 ∷ 7 ∷ 8 ∷ 21 ∷ 9 ∷ 10 ∷ 11 ∷ 12 ∷ 13 ∷ 14 ∷ 15 ∷ 16 ∷ 17 ∷ 18 ∷ 19 ∷ 20 ∷ 22 ∷ 23 ∷ []
+-- only a reader of one version answers 4
+unfoldable pub opening-refusals : Which → List ℕ
+opening-refusals either = 3 ∷ 5 ∷ 6 ∷ 7 ∷ []
+opening-refusals v1-only = 3 ∷ 4 ∷ 5 ∷ 6 ∷ 7 ∷ []
+opening-refusals v2-only = 3 ∷ 4 ∷ 5 ∷ 6 ∷ 7 ∷ []
+
+-- only a reader that tests the frame length answers 20
+unfoldable pub closing-refusals : Bool → List ℕ
+closing-refusals true = 15 ∷ 16 ∷ 17 ∷ 18 ∷ 19 ∷ 20 ∷ 22 ∷ 23 ∷ []
+closing-refusals false = 15 ∷ 16 ∷ 17 ∷ 18 ∷ 19 ∷ 22 ∷ 23 ∷ []
+
+unfoldable pub body-refusals : Request → List ℕ
+body-refusals q = 1 ∷ 2 ∷ (opening-refusals (q .which) ++ (section-refusals (q .mode) ++ closing-refusals (q .frames)))
 
 unfoldable pub auth-refusals : List ℕ
 auth-refusals = 1 ∷ 2 ∷ 6 ∷ []
@@ -35,8 +53,8 @@ abbrev pub RefusesBy : {A : Type 0} → List ℕ → Reader A → Type 0
 RefusesBy listed r = (m : List ℕ) (s k p : ℕ) → operation r m s ≡ refused k p → Refusal listed m k p
 
 pub record Refusals : Type 0 where
-  pub of-context : (mode : Mode) (room : ℕ) → RefusesBy context-refusals (read-aad-section-into mode room)
+  pub of-context : (mode : Mode) (room : ℕ) → RefusesBy (context-refusals mode) (read-aad-section-into mode room)
   pub of-find : (k : List ℕ) → RefusesBy find-refusals (find-value k)
   pub of-keys : (max : Max) (room : ℕ) → RefusesBy keys-refusals (read-encrypted-data-keys-section-into max room)
-  pub of-body : (q : Request) → RefusesBy body-refusals (read-body q)
+  pub of-body : (q : Request) → RefusesBy (body-refusals q) (read-body q)
   pub of-auth : (suite : ℕ) → RefusesBy auth-refusals (read-header-auth-tag suite)

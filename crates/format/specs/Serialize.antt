@@ -16,7 +16,7 @@ pub record Part : Type 0 where
   pub start : ℕ
   pub bytes : List ℕ
 
--- Read: n bytes, 0 included, where the place plus n is at most the message's length; else 2 at the place plus n
+-- Read: n bytes, 0 included, where that many are left; else 2 at the place plus n
 unfoldable pub read : ℕ → Reader Part
 read n l s = elim (leb n (length l)) [ true ↦ success (record { start = s; bytes = take n l }) (drop n l) (s + n) | false ↦ more-needed (s + n) ]
 

@@ -1,0 +1,76 @@
+-- More headers worked out: H without pairs in both forms, and a version 2 header. Assumes nothing.
+use mathlib.Core.Path.{_≡_, refl}
+use mathlib.Core.Bool.{Bool, true}
+use mathlib.Core.List.{List, [], _∷_, _++_}
+use Prim.Native.Nat.{ℕ}
+use lib.Dec.{eqb}
+use lib.ListN.{length, take, drop}
+use Rattle.format.specs.Serialize.{every, same-bytes}
+use Rattle.format.specs.Fields.{Fields}
+use Rattle.format.specs.Context.{old}
+use Rattle.format.specs.Body.{image}
+use Rattle.format.specs.Cases.{accepts, Case, body, writes, is, passes, body-numbers, H, H-fields, opened, laid-out}
+
+-- H with another context section in the place of its own
+unfoldable pub H-with : List ℕ → List ℕ
+H-with section = take 20 H ++ (section ++ drop 34 H)
+
+unfoldable pub H-without-pairs : Fields
+H-without-pairs =
+    record {
+      version = H-fields .version;
+      messageType = H-fields .messageType;
+      suite = H-fields .suite;
+      messageId = H-fields .messageId;
+      pairs = [];
+      keys = H-fields .keys;
+      contentType = H-fields .contentType;
+      headerIvLength = H-fields .headerIvLength;
+      frameLength = H-fields .frameLength;
+      suiteData = H-fields .suiteData;
+    }
+
+-- 32 bytes, from one on
+unfoldable pub bytes-from : ℕ → List ℕ
+bytes-from n = n ∷ 0x01 ∷ 0x02 ∷ 0x03 ∷ 0x04 ∷ 0x05 ∷ 0x06 ∷ 0x07 ∷ 0x08 ∷ 0x09 ∷ 0x0A ∷ 0x0B ∷ 0x0C ∷ 0x0D ∷ 0x0E ∷ 0x0F ∷ 0x10 ∷ 0x11 ∷ 0x12 ∷ 0x13 ∷ 0x14 ∷ 0x15 ∷ 0x16 ∷ 0x17 ∷ 0x18 ∷ 0x19 ∷ 0x1A ∷ 0x1B ∷ 0x1C ∷ 0x1D ∷ 0x1E ∷ 0x1F ∷ []
+
+-- a version 2 header of non-framed content, with one pair and one key
+unfoldable pub V2 : List ℕ
+V2 =
+    (0x02 ∷ 0x05 ∷ 0x78 ∷ bytes-from 0xF0)
+    ++ ((0x00 ∷ 0x08 ∷ 0x00 ∷ 0x01 ∷ 0x00 ∷ 0x01 ∷ 0x61 ∷ 0x00 ∷ 0x01 ∷ 0x62 ∷ [])
+    ++ ((0x00 ∷ 0x01 ∷ 0x00 ∷ 0x01 ∷ 0x70 ∷ 0x00 ∷ 0x00 ∷ 0x00 ∷ 0x01 ∷ 0xAA ∷ [])
+    ++ ((0x01 ∷ 0x00 ∷ 0x00 ∷ 0x00 ∷ 0x00 ∷ []) ++ bytes-from 0xC0)))
+
+unfoldable pub V2-fields : Fields
+V2-fields =
+    record {
+      version = 2;
+      messageType = 0;
+      suite = 0x0578;
+      messageId = bytes-from 0xF0;
+      pairs = record { key = 0x61 ∷ []; value = 0x62 ∷ [] } ∷ [];
+      keys = record { keyProviderId = 0x70 ∷ []; keyProviderInfo = []; ciphertext = 0xAA ∷ [] } ∷ [];
+      contentType = 1;
+      headerIvLength = 0;
+      frameLength = 0;
+      suiteData = bytes-from 0xC0;
+    }
+
+unfoldable pub headers : List Case
+headers =
+    body (H-with (0x00 ∷ 0x00 ∷ [])) 0 (accepts 46 (1 ∷ 0x80 ∷ 0x0178 ∷ 4 ∷ 16 ∷ 26 ∷ 2 ∷ 30 ∷ 1 ∷ 33 ∷ 3 ∷ 2 ∷ 12 ∷ 4096 ∷ 0 ∷ 0 ∷ []))
+    ∷ body (H-with (0x00 ∷ 0x02 ∷ 0x00 ∷ 0x00 ∷ [])) 0 (accepts 48 (1 ∷ 0x80 ∷ 0x0178 ∷ 4 ∷ 16 ∷ 28 ∷ 2 ∷ 32 ∷ 1 ∷ 35 ∷ 3 ∷ 2 ∷ 12 ∷ 4096 ∷ 0 ∷ 0 ∷ []))
+    ∷ writes H-without-pairs (H-with (0x00 ∷ 0x00 ∷ []))
+    ∷ body V2 0 (accepts 92 (2 ∷ 0 ∷ 0x0578 ∷ 3 ∷ 32 ∷ 41 ∷ 1 ∷ 44 ∷ 1 ∷ 49 ∷ 1 ∷ 52 ∷ 0 ∷ 54 ∷ 1 ∷ 1 ∷ 0 ∷ 0 ∷ 60 ∷ 32 ∷ []))
+    ∷ body (0xFF ∷ 0xFF ∷ V2 ++ (0xFF ∷ [])) 2 (accepts 94 (2 ∷ 0 ∷ 0x0578 ∷ 5 ∷ 32 ∷ 43 ∷ 1 ∷ 46 ∷ 1 ∷ 51 ∷ 1 ∷ 54 ∷ 0 ∷ 56 ∷ 1 ∷ 1 ∷ 0 ∷ 0 ∷ 62 ∷ 32 ∷ []))
+    ∷ writes V2-fields V2
+    ∷ []
+
+pub headers-hold : every passes headers ≡ true
+unfolding opened laid-out headers passes is H H-fields H-with H-without-pairs bytes-from V2 V2-fields body-numbers
+headers-hold = refl
+
+pub old-image : same-bytes (image old H-without-pairs) (H-with (0x00 ∷ 0x02 ∷ 0x00 ∷ 0x00 ∷ [])) ≡ true
+unfolding laid-out same-bytes H H-fields H-with H-without-pairs opened
+old-image = refl

@@ -1,0 +1,99 @@
+//! Images, built by concatenation, with the ends of the reads they ask for.
+
+use crate::{Key, Pair};
+
+/// Bytes, and the place where each read in turn ends. A message cut to `c`
+/// bytes is short at the first of these above `c`.
+#[derive(Clone, Debug, Default)]
+pub struct Image {
+    pub bytes: Vec<u8>,
+    pub stops: Vec<u64>,
+}
+
+impl Image {
+    /// A part that is one read.
+    pub fn part(&mut self, bytes: &[u8]) -> &mut Image {
+        self.bytes.extend_from_slice(bytes);
+        self.stops.push(self.bytes.len() as u64);
+        self
+    }
+
+    /// An entry: its length, then its bytes.
+    pub fn entry(&mut self, bytes: &[u8]) -> &mut Image {
+        self.part(&(bytes.len() as u16).to_be_bytes());
+        self.part(bytes)
+    }
+
+    /// Another image behind this one.
+    pub fn image(&mut self, other: &Image) -> &mut Image {
+        let base = self.bytes.len() as u64;
+        self.bytes.extend_from_slice(&other.bytes);
+        self.stops
+            .extend(other.stops.iter().map(|stop| base + stop));
+        self
+    }
+
+    /// The position wanted of a message cut to `length` bytes, the image
+    /// beginning at `before`.
+    pub fn wanted(&self, before: u64, length: u64) -> Option<u64> {
+        self.stops
+            .iter()
+            .map(|stop| before + stop)
+            .find(|&stop| stop > length)
+    }
+}
+
+/// How an empty context is stored.
+#[derive(Clone, Copy, Debug, PartialEq, Eq)]
+pub enum Form {
+    Today,
+    Old,
+}
+
+/// A context section of any pairs, right or wrong, with a stored length and
+/// count that may be wrong as well.
+pub fn section_with(pairs: &[Pair], length: u16, count: u16) -> Image {
+    let mut image = Image::default();
+    image.part(&length.to_be_bytes());
+    image.stops.push(2 + u64::from(length));
+    image.part(&count.to_be_bytes());
+    for (key, value) in pairs {
+        image.entry(key).entry(value);
+    }
+    image
+}
+
+/// The bytes the pairs take.
+pub fn pairs_length(pairs: &[Pair]) -> usize {
+    pairs
+        .iter()
+        .map(|(key, value)| 4 + key.len() + value.len())
+        .sum()
+}
+
+/// A context section as stored.
+pub fn section(pairs: &[Pair], form: Form) -> Image {
+    if pairs.is_empty() && form == Form::Today {
+        let mut image = Image::default();
+        image.part(&[0, 0]);
+        return image;
+    }
+    section_with(pairs, (2 + pairs_length(pairs)) as u16, pairs.len() as u16)
+}
+
+/// A key section with a stored count that may be wrong.
+pub fn keys_with(keys: &[Key], count: u16) -> Image {
+    let mut image = Image::default();
+    image.part(&count.to_be_bytes());
+    for key in keys {
+        for part in key {
+            image.entry(part);
+        }
+    }
+    image
+}
+
+/// A key section as stored.
+pub fn keys(keys: &[Key]) -> Image {
+    keys_with(keys, keys.len() as u16)
+}

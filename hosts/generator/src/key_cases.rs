@@ -1,0 +1,163 @@
+//! Requests to read a key section.
+
+use crate::fields;
+use crate::image::{keys, keys_with, Image};
+use crate::random::Random;
+use crate::surroundings::{cut, flip_bits, start_past, start_too_large, table, whole};
+use crate::texts::bad_text;
+use crate::{Expected, Key};
+
+/// A request. Accepted, it gives `keys` and the tail `end`.
+#[derive(Clone, Debug)]
+pub struct KeyCase {
+    pub message: Vec<u8>,
+    pub start: u64,
+    pub max: Option<u64>,
+    pub table: Vec<u32>,
+    pub keys: Vec<Key>,
+    pub end: u64,
+    pub expected: Expected,
+}
+
+/// The kinds of key section.
+#[derive(Clone, Copy, Debug, PartialEq, Eq)]
+pub enum Kind {
+    Intact,
+    BitFlips,
+    CountUp,
+    CountDown,
+    EntryLength,
+    BadProvider,
+    Noise,
+}
+
+/// A key section and what its bytes decide: `None` if nothing.
+#[derive(Clone, Debug)]
+pub struct KeySection {
+    pub image: Image,
+    pub keys: Vec<Key>,
+    pub refused: Option<u32>,
+    pub open: bool,
+}
+
+pub const KINDS: [Kind; 9] = [
+    Kind::Intact,
+    Kind::Intact,
+    Kind::Intact,
+    Kind::BitFlips,
+    Kind::CountUp,
+    Kind::CountDown,
+    Kind::EntryLength,
+    Kind::BadProvider,
+    Kind::Noise,
+];
+
+/// A key section of the kind asked for.
+pub fn build(random: &mut Random, kind: Kind) -> KeySection {
+    let mut list = fields::keys(random, 12);
+    if kind != Kind::Intact && list.is_empty() {
+        list.push([b"p".to_vec(), Vec::new(), random.bytes(3)]);
+    }
+    if kind == Kind::BadProvider {
+        let at = random.index(list.len());
+        list[at][0] = bad_text(random);
+    }
+    let mut image = keys(&list);
+    let count = list.len() as u16;
+    match kind {
+        Kind::BitFlips => flip_bits(random, &mut image.bytes),
+        Kind::CountUp => image = keys_with(&list, count + 1),
+        Kind::CountDown => image = keys_with(&list, count - 1),
+        Kind::EntryLength => entry_length_off(random, &mut image.bytes, &list),
+        Kind::Noise => {
+            let length = random.length(60);
+            image.bytes = random.bytes(length);
+        }
+        Kind::Intact | Kind::BadProvider => {}
+    }
+    KeySection {
+        image,
+        keys: list,
+        refused: (kind == Kind::BadProvider).then_some(16),
+        open: !matches!(kind, Kind::Intact | Kind::BadProvider),
+    }
+}
+
+fn entry_length_off(random: &mut Random, bytes: &mut [u8], keys: &[Key]) {
+    let mut at = 2;
+    let chosen = random.index(3 * keys.len());
+    for (i, part) in keys.iter().flatten().enumerate() {
+        if i == chosen {
+            let length = part.len() as u16;
+            let wrong = if random.one_in(2) {
+                length.wrapping_add(1)
+            } else {
+                length.wrapping_sub(1)
+            };
+            bytes[at..at + 2].copy_from_slice(&wrong.to_be_bytes());
+            return;
+        }
+        at += 2 + part.len();
+    }
+}
+
+/// A maximum that a count passes, or doesn't.
+pub fn maximum(random: &mut Random, count: usize, passed: bool) -> Option<u64> {
+    let count = count as u64;
+    if passed {
+        return Some(random.pick(&[0, count / 2, count - 1]));
+    }
+    match random.below(5) {
+        0 | 1 => None,
+        2 => Some(count),
+        3 => Some(random.between(count, u64::MAX)),
+        _ => Some(
+            random
+                .pick(&[1 << 16, 1 << 32, 1 << 63, u64::MAX])
+                .max(count),
+        ),
+    }
+}
+
+/// The request of a seed.
+pub fn key_case(seed: u64) -> KeyCase {
+    let mut random = Random::new(seed);
+    let random = &mut random;
+    let placing = random.below(16);
+    let kind = if placing <= 5 {
+        Kind::Intact
+    } else {
+        random.pick(&KINDS)
+    };
+    let section = build(random, kind);
+    let placed = match placing {
+        0..=3 => cut(random, &section.image),
+        4 => start_past(random, &section.image, 2),
+        5 => start_too_large(random, &section.image),
+        _ => whole(random, &section.image, 0),
+    };
+    let count = section.keys.len();
+    // The maximum is only sure to be passed where the count can be read.
+    let passed = placing > 5 && count > 0 && !section.open && random.one_in(6);
+    let max = maximum(random, count, passed);
+    let (table, fits) = table(random, 6 * count, true);
+    let expected = match placed.fault {
+        Some((number, position)) => Expected::Refused(number, position),
+        None if section.open => Expected::Open,
+        None if passed => Expected::Refused(15, 0),
+        None => match section.refused {
+            Some(number) => Expected::Refused(number, 0),
+            None if !fits => Expected::Refused(23, 0),
+            None => Expected::Accepted,
+        },
+    };
+    KeyCase {
+        message: placed.message,
+        start: placed.start,
+        max,
+        table,
+        keys: section.keys,
+        end: placed.end,
+        expected,
+    }
+}

@@ -1,0 +1,38 @@
+//! Seeded generation of message headers and their parts, intact and damaged.
+//!
+//! Every function is determined by its seed. Images are built here, by
+//! concatenation, so that they depend on no codec. Where the damage decides
+//! the answer, the case says which answer is expected.
+#![forbid(unsafe_code)]
+
+pub mod auth_cases;
+pub mod body_cases;
+pub mod body_write_cases;
+pub mod fields;
+pub mod image;
+pub mod key_cases;
+pub mod random;
+pub mod section_cases;
+pub mod sections;
+pub mod surroundings;
+pub mod table_faults;
+pub mod tables;
+pub mod texts;
+pub mod write_cases;
+
+/// What the damage decides of the answer.
+#[derive(Clone, Copy, Debug, PartialEq, Eq)]
+pub enum Expected {
+    /// Accepted, with the fields and the end the case holds.
+    Accepted,
+    /// Refused, with this number and position.
+    Refused(u32, u64),
+    /// Not decided by construction.
+    Open,
+}
+
+/// A pair: key and value.
+pub type Pair = (Vec<u8>, Vec<u8>);
+
+/// A key: provider ID, provider info, ciphertext.
+pub type Key = [Vec<u8>; 3];

@@ -1,0 +1,128 @@
+//! Writing a header body of either version.
+
+use crate::body::{frame_fits, id_length, Body, FRAMED, NON_FRAMED, TYPE_V1};
+use crate::context_write;
+use crate::keys;
+use crate::leaves::put;
+use crate::refusal::*;
+use crate::suites::{lookup, Suite};
+
+/// The fields of a body that are numbers.
+#[derive(Clone, Copy, Debug, Default, PartialEq, Eq)]
+pub struct Numbers {
+    pub version: u32,
+    pub message_type: u32,
+    pub suite: u32,
+    pub content_type: u32,
+    pub iv_length: u32,
+    pub frame_length: u32,
+}
+
+impl Body {
+    /// The numbers a writer needs to write this body again.
+    pub fn numbers(&self) -> Numbers {
+        Numbers {
+            version: self.version,
+            message_type: self.message_type,
+            suite: self.suite,
+            content_type: self.content_type,
+            iv_length: self.iv_length,
+            frame_length: self.frame_length,
+        }
+    }
+}
+
+/// Refusals 3, 5, 6 and 7: the numbers that stand before the ID.
+fn test_front(numbers: &Numbers) -> Result<(), Refusal> {
+    let wanted_type = match numbers.version {
+        1 => TYPE_V1,
+        2 => 0,
+        _ => return Err(Refusal::of(VERSION)),
+    };
+    if numbers.message_type != wanted_type {
+        return Err(Refusal::of(TYPE));
+    }
+    let suite = lookup(numbers.suite).ok_or(Refusal::of(UNKNOWN_SUITE))?;
+    if suite.version != numbers.version {
+        return Err(Refusal::of(SUITE_OF_OTHER_VERSION));
+    }
+    Ok(())
+}
+
+/// Refusals 17, 19, 25 and 20: what stands behind the keys.
+fn test_back(numbers: &Numbers, suite_data: &[u8]) -> Result<(), Refusal> {
+    if numbers.content_type != NON_FRAMED && numbers.content_type != FRAMED {
+        return Err(Refusal::of(CONTENT_TYPE));
+    }
+    let (iv_length, data_length) = match numbers.version {
+        1 => (Suite::IV_LEN, 0),
+        _ => (0, Suite::COMMIT_LEN),
+    };
+    if u64::from(numbers.iv_length) != iv_length {
+        return Err(Refusal::of(IV_LENGTH));
+    }
+    if suite_data.len() as u64 != data_length {
+        return Err(Refusal::of(SUITE_DATA));
+    }
+    if !frame_fits(numbers.content_type, numbers.frame_length) {
+        return Err(Refusal::of(FRAME_LENGTH));
+    }
+    Ok(())
+}
+
+/// Writes a body from the output's first byte; answers its length. Pairs and
+/// keys have their places in one text. 3; 5; 6; 7; 24; the pairs' and then the
+/// keys' but 28; 17; 19; 25; 20; 28.
+pub fn write_header_body(
+    numbers: &Numbers,
+    id: &[u8],
+    suite_data: &[u8],
+    text: &[u8],
+    pairs: &[u32],
+    keys: &[u32],
+    out: &mut [u8],
+) -> Result<u64, Refusal> {
+    test_front(numbers)?;
+    if id.len() as u64 != id_length(numbers.version) {
+        return Err(Refusal::of(ID_LENGTH));
+    }
+    let pairs_length = context_write::test_pairs(text, pairs)?;
+    let keys_length = keys::test_keys(text, keys)?;
+    test_back(numbers, suite_data)?;
+    let front_length = match numbers.version {
+        1 => 4 + 16,
+        _ => 3 + 32,
+    };
+    let back_length = match numbers.version {
+        1 => 1 + 4 + 1 + 4,
+        _ => 1 + 4 + Suite::COMMIT_LEN,
+    };
+    let length = front_length + pairs_length + keys_length + back_length;
+    if length > out.len() as u64 {
+        return Err(Refusal::of(OUTPUT));
+    }
+
+    let mut at = put_front(numbers, id, out);
+    at += context_write::put_section(text, pairs, pairs_length, &mut out[at..]);
+    at += keys::put_section(text, keys, &mut out[at..]);
+    put_back(numbers, suite_data, &mut out[at..]);
+    Ok(length)
+}
+
+fn put_front(numbers: &Numbers, id: &[u8], out: &mut [u8]) -> usize {
+    let mut at = put(out, 0, &[numbers.version as u8]);
+    if numbers.version == 1 {
+        at = put(out, at, &[numbers.message_type as u8]);
+    }
+    at = put(out, at, &(numbers.suite as u16).to_be_bytes());
+    put(out, at, id)
+}
+
+fn put_back(numbers: &Numbers, suite_data: &[u8], out: &mut [u8]) {
+    let mut at = put(out, 0, &[numbers.content_type as u8]);
+    if numbers.version == 1 {
+        at = put(out, at, &[0, 0, 0, 0, numbers.iv_length as u8]);
+    }
+    at = put(out, at, &numbers.frame_length.to_be_bytes());
+    put(out, at, suite_data);
+}

@@ -1,0 +1,173 @@
+//! Reading an encryption context section, and finding a value in one.
+
+use crate::leaves::{part, read_bytes, read_entry, read_u16, Place};
+use crate::refusal::*;
+use crate::seen::Seen;
+use crate::tables::{put_place, NUMBERS_A_PAIR};
+use crate::utf8::is_utf8;
+
+/// All pairs together take fewer bytes than this, so that with their count
+/// they still fit the 16-bit section length.
+pub const PAIRS_LIMIT: u64 = 65_534;
+
+/// Whether the old form of an empty section, 00 02 00 00, is accepted.
+#[derive(Clone, Copy, Debug, PartialEq, Eq)]
+pub enum Mode {
+    Tolerant,
+    Strict,
+}
+
+/// An accepted section: how many pairs it has, and the next byte's place.
+#[derive(Clone, Copy, Debug, PartialEq, Eq)]
+pub struct PairsRead {
+    pub pairs: u32,
+    pub tail: u64,
+}
+
+/// A section that passed every test but that of the table.
+#[derive(Clone, Copy)]
+pub(crate) struct Section {
+    pub count: u32,
+    pub tail: u64,
+    first_pair: u64,
+}
+
+impl Section {
+    /// Whether a table has the numbers for every pair.
+    pub fn fits(&self, pairs: &[u32]) -> bool {
+        pairs.len() >= NUMBERS_A_PAIR * self.count as usize
+    }
+
+    /// Fills the table with the pairs' places. The lengths are read a second
+    /// time: nothing could be stored before the last test.
+    pub fn fill(&self, message: &[u8], pairs: &mut [u32]) {
+        for (entry, (key, value)) in pairs
+            .chunks_exact_mut(NUMBERS_A_PAIR)
+            .zip(self.places(message))
+        {
+            put_place(entry, key);
+            put_place(&mut entry[2..], value);
+        }
+    }
+
+    fn places<'a>(&self, message: &'a [u8]) -> impl Iterator<Item = (Place, Place)> + 'a {
+        let mut at = self.first_pair;
+        (0..self.count).map_while(move |_| {
+            let key = read_entry(message, at).ok()?;
+            let value = read_entry(message, key.end()).ok()?;
+            at = value.end();
+            Some((key, value))
+        })
+    }
+}
+
+/// All tests of a section but 1 and 22, in order.
+pub(crate) fn walk(message: &[u8], start: u64, mode: Mode) -> Result<Section, Refusal> {
+    let (length, body) = read_u16(message, start)?;
+    let length = u64::from(length);
+    if length == 0 {
+        return Ok(Section {
+            count: 0,
+            tail: body,
+            first_pair: body,
+        });
+    }
+    read_bytes(message, body, length)?;
+    // With length 1 the count's second byte lies past the section.
+    let (count, first_pair) = read_u16(message, body)?;
+    if length == 2 {
+        if count != 0 {
+            return Err(Refusal::of(COUNT_IN_EMPTY_SECTION));
+        }
+        if mode == Mode::Strict {
+            return Err(Refusal::of(OLD_FORM));
+        }
+        return Ok(Section {
+            count: 0,
+            tail: first_pair,
+            first_pair,
+        });
+    }
+    if count == 0 {
+        return Err(Refusal::of(NO_PAIRS_IN_SECTION));
+    }
+    let tail = walk_pairs(message, first_pair, count)?;
+    if tail - body != length {
+        return Err(Refusal::of(SECTION_END));
+    }
+    Ok(Section {
+        count: u32::from(count),
+        tail,
+        first_pair,
+    })
+}
+
+/// The tests of each pair; answers the end of the last. Entries are read on
+/// past the section's end, which only the caller's test 14 notices.
+fn walk_pairs(message: &[u8], first_pair: u64, count: u16) -> Result<u64, Refusal> {
+    let mut seen = Seen::new();
+    let mut at = first_pair;
+    for _ in 0..count {
+        let key = read_entry(message, at)?;
+        let key_part = part(message, key);
+        if !is_utf8(key_part) {
+            return Err(Refusal::of(KEY_NOT_UTF8));
+        }
+        let value = read_entry(message, key.end())?;
+        if !is_utf8(part(message, value)) {
+            return Err(Refusal::of(VALUE_NOT_UTF8));
+        }
+        if !seen.insert(key_part) {
+            return Err(Refusal::of(KEY_SEEN));
+        }
+        at = value.end();
+        if at - first_pair >= PAIRS_LIMIT {
+            return Err(Refusal::of(PAIRS_TOO_LONG));
+        }
+    }
+    Ok(at)
+}
+
+/// Reads a context section: 1; 2 at the length, the whole section, the count;
+/// 8; 21 (strict); 9; per pair 2, 10, 2, 11, 12, 13; 14; 22.
+pub fn read_aad_section(
+    message: &[u8],
+    start: u64,
+    mode: Mode,
+    pairs: &mut [u32],
+) -> Result<PairsRead, Refusal> {
+    test_sizes(message, start)?;
+    let section = walk(message, start, mode)?;
+    if !section.fits(pairs) {
+        return Err(Refusal::of(PAIR_TABLE));
+    }
+    section.fill(message, pairs);
+    Ok(PairsRead {
+        pairs: section.count,
+        tail: section.tail,
+    })
+}
+
+/// The place of the value under `key` in the section at `start`, read
+/// tolerantly. Keys differ, so there is at most one; any bytes may be asked
+/// for.
+pub fn find(message: &[u8], start: u64, key: &[u8]) -> Result<Place, Refusal> {
+    test_sizes(message, start)?;
+    let section = walk(message, start, Mode::Tolerant)?;
+    let found = section
+        .places(message)
+        .find(|&(place, _)| part(message, place) == key);
+    match found {
+        Some((_, value)) => Ok(value),
+        None => Err(Refusal::of(NOT_FOUND)),
+    }
+}
+
+/// The value itself as a part of the message; on any refusal the empty part
+/// at the message's front.
+pub fn find_part<'a>(message: &'a [u8], start: u64, key: &[u8]) -> &'a [u8] {
+    match find(message, start, key) {
+        Ok(value) => part(message, value),
+        Err(_) => &message[..0],
+    }
+}

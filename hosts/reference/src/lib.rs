@@ -1,0 +1,40 @@
+//! A separate codec of AWS Encryption SDK message headers.
+//!
+//! Readers hand out places in the lent message and fill lent tables of
+//! 32-bit numbers; writers fill a lent output from its first byte. An
+//! operation that refuses changes nothing it was lent: each one first tests
+//! everything, then fills.
+//!
+//! Numbers that are fields (version, suite and so on) are `u32` throughout,
+//! so that a caller can hand in one wider than its stored form; it is refused
+//! as any other wrong number is.
+#![forbid(unsafe_code)]
+
+pub mod auth;
+pub mod body;
+pub mod body_write;
+pub mod context;
+pub mod context_write;
+pub mod keys;
+pub mod leaves;
+pub mod listing;
+pub mod refusal;
+pub mod seen;
+pub mod suites;
+pub mod tables;
+pub mod utf8;
+
+pub use auth::{read_header_auth_tag, write_header_auth_tag, AuthRecord};
+pub use body::{read_header_body, Body, Which};
+pub use body_write::{write_header_body, Numbers};
+pub use context::{find, find_part, read_aad_section, Mode, PairsRead};
+pub use context_write::write_aad_section;
+pub use keys::{read_encrypted_data_keys_section, write_encrypted_data_keys_section, KeysRead};
+pub use leaves::{
+    compare_parts, equal_parts, read_bytes, read_entry, read_u16, read_u32, read_u8, write_bytes,
+    write_entry, write_u16, write_u32, Place,
+};
+pub use listing::{host_answer, listing};
+pub use refusal::Refusal;
+pub use suites::{lookup, Suite, SUITES};
+pub use utf8::is_utf8;

@@ -1,0 +1,75 @@
+//! What the tests share.
+#![allow(dead_code)]
+
+pub mod plain;
+
+use reference::{Mode, Refusal};
+
+pub fn mode(strict: bool) -> Mode {
+    if strict {
+        Mode::Strict
+    } else {
+        Mode::Tolerant
+    }
+}
+
+/// Bytes from hexadecimal digits; anything else only separates.
+pub fn hex(text: &str) -> Vec<u8> {
+    let digits: Vec<u8> = text
+        .chars()
+        .filter_map(|c| c.to_digit(16))
+        .map(|digit| digit as u8)
+        .collect();
+    digits.chunks(2).map(|two| two[0] << 4 | two[1]).collect()
+}
+
+/// The header of the scope's whole example, 58 bytes.
+pub fn header_h() -> Vec<u8> {
+    let mut bytes = hex("01 80 01 78");
+    bytes.extend(0..16u8);
+    bytes.extend(hex("00 0C 00 01 00 04 6C 61 6E 67 00 02 63 79"));
+    bytes.extend(hex("00 01 00 02 70 31 00 01 61 00 03 AA BB CC"));
+    bytes.extend(hex("02 00 00 00 00 0C 00 00 10 00"));
+    bytes
+}
+
+/// A header of version 2 with an empty context and one key; 85 bytes.
+pub fn header_v2() -> Vec<u8> {
+    let mut bytes = hex("02 05 78");
+    bytes.extend(32..64u8);
+    bytes.extend(hex("00 00 00 01 00 01 70 00 00 00 02 AA BB 01 00 00 00 00"));
+    bytes.extend(64..96u8);
+    bytes
+}
+
+/// A refusal as a row writes it: number and position.
+pub fn refusal(refusal: Refusal) -> (u32, u64) {
+    (refusal.number, refusal.position)
+}
+
+/// The parts a table names, as bytes.
+pub fn parts<'a>(bytes: &'a [u8], table: &[u32]) -> Vec<&'a [u8]> {
+    table
+        .chunks_exact(2)
+        .map(|place| &bytes[place[0] as usize..place[0] as usize + place[1] as usize])
+        .collect()
+}
+
+/// The pairs of a case as a list of parts.
+pub fn pair_parts(pairs: &[generator::Pair]) -> Vec<&[u8]> {
+    pairs
+        .iter()
+        .flat_map(|(key, value)| [key.as_slice(), value.as_slice()])
+        .collect()
+}
+
+/// The keys of a case as a list of parts.
+pub fn key_parts(keys: &[generator::Key]) -> Vec<&[u8]> {
+    keys.iter().flatten().map(|part| part.as_slice()).collect()
+}
+
+/// Says how many cases a test compared; none is a failure.
+pub fn report(name: &str, compared: u64) {
+    println!("{name}: {compared} compared");
+    assert!(compared > 0, "{name} compared nothing");
+}

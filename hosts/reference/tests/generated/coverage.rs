@@ -1,0 +1,113 @@
+//! Counts of each refusal by operation.
+
+use reference::Refusal;
+use std::collections::BTreeMap;
+
+/// The refusals each operation lists.
+const LISTED: [(&str, &[u32]); 15] = [
+    (
+        "read section tolerant",
+        &[1, 2, 8, 9, 10, 11, 12, 13, 14, 22],
+    ),
+    (
+        "read section strict",
+        &[1, 2, 8, 9, 10, 11, 12, 13, 14, 21, 22],
+    ),
+    ("find", &[1, 2, 8, 9, 10, 11, 12, 13, 14, 29]),
+    ("read keys", &[1, 2, 15, 16, 23]),
+    (
+        "read body tolerant",
+        &[
+            1, 2, 3, 5, 6, 7, 8, 9, 10, 11, 12, 13, 14, 15, 16, 17, 18, 19, 20, 22, 23,
+        ],
+    ),
+    (
+        "read body strict",
+        &[
+            1, 2, 3, 5, 6, 7, 8, 9, 10, 11, 12, 13, 14, 15, 16, 17, 18, 19, 20, 21, 22, 23,
+        ],
+    ),
+    (
+        "read body v1 tolerant",
+        &[
+            1, 2, 3, 4, 5, 6, 7, 8, 9, 10, 11, 12, 13, 14, 15, 16, 17, 18, 19, 22, 23,
+        ],
+    ),
+    (
+        "read body v1 strict",
+        &[
+            1, 2, 3, 4, 5, 6, 7, 8, 9, 10, 11, 12, 13, 14, 15, 16, 17, 18, 19, 21, 22, 23,
+        ],
+    ),
+    (
+        "read body v2 tolerant",
+        &[
+            1, 2, 3, 4, 6, 7, 8, 9, 10, 11, 12, 13, 14, 15, 16, 17, 22, 23,
+        ],
+    ),
+    (
+        "read body v2 strict",
+        &[
+            1, 2, 3, 4, 6, 7, 8, 9, 10, 11, 12, 13, 14, 15, 16, 17, 21, 22, 23,
+        ],
+    ),
+    ("read auth", &[1, 2, 6]),
+    ("write section", &[10, 11, 12, 13, 26, 27, 28]),
+    ("write keys", &[16, 26, 27, 28]),
+    (
+        "write body",
+        &[
+            3, 5, 6, 7, 10, 11, 12, 13, 16, 17, 19, 20, 24, 25, 26, 27, 28,
+        ],
+    ),
+    ("write auth", &[6, 19, 28, 30]),
+];
+
+/// Answers counted by operation; column 0 is acceptance.
+#[derive(Default)]
+pub struct Coverage(BTreeMap<&'static str, [u64; 31]>);
+
+impl Coverage {
+    pub fn count<T>(&mut self, operation: &'static str, answer: &Result<T, Refusal>) {
+        let row = self.0.entry(operation).or_insert([0; 31]);
+        let column = answer
+            .as_ref()
+            .err()
+            .map_or(0, |refusal| refusal.number as usize);
+        row[column] += 1;
+    }
+
+    /// One line an operation: how often each refusal came about.
+    pub fn print(&self) {
+        for (operation, _) in LISTED {
+            let row = self.0.get(operation).copied().unwrap_or([0; 31]);
+            print!("{operation:22} accepted {}", row[0]);
+            for (number, count) in row
+                .iter()
+                .enumerate()
+                .skip(1)
+                .filter(|(_, count)| **count > 0)
+            {
+                print!("  {number}:{count}");
+            }
+            println!();
+        }
+    }
+
+    /// Every operation accepted something, gave each refusal it lists, and
+    /// gave no other.
+    pub fn assert_complete(&self) {
+        assert_eq!(self.0.len(), LISTED.len());
+        for (operation, listed) in LISTED {
+            let row = self.0[operation];
+            for (number, &count) in row.iter().enumerate() {
+                let wanted = number == 0 || listed.contains(&(number as u32));
+                assert_eq!(
+                    wanted,
+                    count > 0,
+                    "{operation}: {number} came about {count} times"
+                );
+            }
+        }
+    }
+}

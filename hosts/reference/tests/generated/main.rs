@@ -1,0 +1,27 @@
+//! Generated requests of every operation, intact and damaged, held against
+//! what their damage decides and against the slow second opinion. A table of
+//! operations and refusals shows that each refusal has come about.
+
+#[path = "../common/mod.rs"]
+mod common;
+mod coverage;
+mod reads;
+mod writes;
+
+use coverage::Coverage;
+
+#[test]
+fn every_operation_on_generated_requests() {
+    let mut coverage = Coverage::default();
+    let compared = reads::sections(&mut coverage)
+        + reads::keys(&mut coverage)
+        + reads::bodies(&mut coverage)
+        + reads::auth(&mut coverage)
+        + writes::sections(&mut coverage)
+        + writes::keys(&mut coverage)
+        + writes::bodies(&mut coverage)
+        + writes::auth(&mut coverage);
+    coverage.print();
+    coverage.assert_complete();
+    common::report("generated requests", compared);
+}

@@ -1,0 +1,291 @@
+//! The readers on generated requests.
+
+use crate::common::plain::{self, Buffer, No, Part};
+use crate::common::{key_parts, mode, pair_parts, parts};
+use crate::coverage::Coverage;
+use generator::auth_cases::auth_case;
+use generator::body_cases::{body_case, BodyCase, Reader};
+use generator::key_cases::key_case;
+use generator::section_cases::{section_case, SectionCase};
+use generator::Expected;
+use reference::*;
+
+/// The answer is the one the damage decides, if it decides one.
+pub fn as_expected<T: std::fmt::Debug>(seed: u64, answer: &Result<T, Refusal>, expected: Expected) {
+    let agrees = match (expected, answer) {
+        (Expected::Open, _) => true,
+        (Expected::Accepted, answer) => answer.is_ok(),
+        (Expected::Refused(number, position), Err(refusal)) => {
+            (refusal.number, refusal.position) == (number, position)
+        }
+        (Expected::Refused(..), Ok(_)) => false,
+    };
+    assert!(agrees, "seed {seed}: expected {expected:?}, got {answer:?}");
+}
+
+fn no<T>(answer: &Result<T, Refusal>) -> Option<No> {
+    answer
+        .as_ref()
+        .err()
+        .map(|refusal| (refusal.number, refusal.position))
+}
+
+/// The table holds these parts' places, and keeps its numbers beyond them; or
+/// all of them, if the answer was a refusal.
+fn table_is(seed: u64, before: &[u32], after: &[u32], filled: Option<&[Part]>) {
+    let mut wanted = before.to_vec();
+    for (i, (start, bytes)) in filled.unwrap_or(&[]).iter().enumerate() {
+        wanted[2 * i] = *start as u32;
+        wanted[2 * i + 1] = bytes.len() as u32;
+    }
+    assert_eq!(wanted, after, "seed {seed}: table");
+}
+
+pub fn sections(coverage: &mut Coverage) -> u64 {
+    const SEEDS: u64 = 200_000;
+    for seed in 0..SEEDS {
+        let case = section_case(seed);
+        let operation = if case.strict {
+            "read section strict"
+        } else {
+            "read section tolerant"
+        };
+        let mut table = case.table.clone();
+        let answer = read_aad_section(&case.message, case.start, mode(case.strict), &mut table);
+        coverage.count(operation, &answer);
+        as_expected(seed, &answer, case.expected);
+
+        let plain = Buffer::new(&case.message, case.start).and_then(|mut buffer| {
+            let parts = plain::section(&mut buffer, case.strict)?;
+            if case.table.len() < 2 * parts.len() {
+                return Err((22, 0));
+            }
+            Ok((parts, buffer.start as u64))
+        });
+        assert_eq!(no(&answer), plain.as_ref().err().copied(), "seed {seed}");
+        table_is(
+            seed,
+            &case.table,
+            &table,
+            plain.as_ref().ok().map(|(parts, _)| parts.as_slice()),
+        );
+        if let (Ok(read), Ok((filled, tail))) = (&answer, &plain) {
+            assert_eq!(
+                (2 * read.pairs as usize, read.tail),
+                (filled.len(), *tail),
+                "seed {seed}"
+            );
+            if case.expected == Expected::Accepted {
+                assert_eq!(read.tail, case.end, "seed {seed}");
+                let got = parts(&case.message, &table[..4 * read.pairs as usize]);
+                assert_eq!(got, pair_parts(&case.pairs), "seed {seed}");
+            }
+        }
+        finds(seed, &case, coverage);
+    }
+    2 * SEEDS
+}
+
+fn finds(seed: u64, case: &SectionCase, coverage: &mut Coverage) {
+    let answer = find(&case.message, case.start, &case.asked);
+    coverage.count("find", &answer);
+    as_expected(seed, &answer, case.find_expected);
+    let part = find_part(&case.message, case.start, &case.asked);
+    let plain = Buffer::new(&case.message, case.start).and_then(|mut buffer| {
+        let parts = plain::section(&mut buffer, false)?;
+        let at = parts
+            .iter()
+            .step_by(2)
+            .position(|(_, key)| *key == case.asked);
+        at.map(|at| parts[2 * at + 1].clone()).ok_or((29, 0))
+    });
+    match (answer, plain) {
+        (Ok(place), Ok((start, bytes))) => {
+            assert_eq!(
+                (place.start, place.len),
+                (start, bytes.len() as u64),
+                "seed {seed}"
+            );
+            assert_eq!(part, bytes, "seed {seed}");
+            assert_eq!(part.as_ptr(), case.message[place.start as usize..].as_ptr());
+            if case.find_expected == Expected::Accepted {
+                assert_eq!(part, case.pairs[case.at].1, "seed {seed}");
+            }
+        }
+        (Err(refusal), Err(plain)) => {
+            assert_eq!((refusal.number, refusal.position), plain, "seed {seed}");
+            assert!(
+                part.is_empty() && part.as_ptr() == case.message.as_ptr(),
+                "seed {seed}"
+            );
+        }
+        (answer, plain) => panic!("seed {seed}: {answer:?} against {plain:?}"),
+    }
+}
+
+pub fn keys(coverage: &mut Coverage) -> u64 {
+    const SEEDS: u64 = 150_000;
+    for seed in 0..SEEDS {
+        let case = key_case(seed);
+        let mut table = case.table.clone();
+        let answer =
+            read_encrypted_data_keys_section(&case.message, case.start, case.max, &mut table);
+        coverage.count("read keys", &answer);
+        as_expected(seed, &answer, case.expected);
+
+        let plain = Buffer::new(&case.message, case.start).and_then(|mut buffer| {
+            let parts = plain::keys(&mut buffer, case.max)?;
+            if case.table.len() < 2 * parts.len() {
+                return Err((23, 0));
+            }
+            Ok((parts, buffer.start as u64))
+        });
+        assert_eq!(no(&answer), plain.as_ref().err().copied(), "seed {seed}");
+        table_is(
+            seed,
+            &case.table,
+            &table,
+            plain.as_ref().ok().map(|(parts, _)| parts.as_slice()),
+        );
+        if let (Ok(read), Ok((filled, tail))) = (&answer, &plain) {
+            assert_eq!(
+                (3 * read.keys as usize, read.tail),
+                (filled.len(), *tail),
+                "seed {seed}"
+            );
+            if case.expected == Expected::Accepted {
+                assert_eq!(read.tail, case.end, "seed {seed}");
+                let got = parts(&case.message, &table[..6 * read.keys as usize]);
+                assert_eq!(got, key_parts(&case.keys), "seed {seed}");
+            }
+        }
+    }
+    SEEDS
+}
+
+pub fn bodies(coverage: &mut Coverage) -> u64 {
+    const SEEDS: u64 = 400_000;
+    for seed in 0..SEEDS {
+        body(seed, &body_case(seed), coverage);
+    }
+    SEEDS
+}
+
+fn body(seed: u64, case: &BodyCase, coverage: &mut Coverage) {
+    let (which, only, operation) = match (case.reader, case.strict) {
+        (Reader::Either, false) => (Which::Either, 0, "read body tolerant"),
+        (Reader::Either, true) => (Which::Either, 0, "read body strict"),
+        (Reader::V1, false) => (Which::V1, 1, "read body v1 tolerant"),
+        (Reader::V1, true) => (Which::V1, 1, "read body v1 strict"),
+        (Reader::V2, false) => (Which::V2, 2, "read body v2 tolerant"),
+        (Reader::V2, true) => (Which::V2, 2, "read body v2 strict"),
+    };
+    let (mut pairs, mut keys) = (case.pair_table.clone(), case.key_table.clone());
+    let mode = mode(case.strict);
+    let answer = read_header_body(
+        &case.message,
+        case.start,
+        which,
+        mode,
+        case.max,
+        &mut pairs,
+        &mut keys,
+    );
+    coverage.count(operation, &answer);
+    as_expected(seed, &answer, case.expected);
+
+    let plain = Buffer::new(&case.message, case.start).and_then(|mut buffer| {
+        let body = plain::body(&mut buffer, only, case.strict, case.max)?;
+        if case.pair_table.len() < 2 * body.pairs.len() {
+            return Err((22, 0));
+        }
+        if case.key_table.len() < 2 * body.keys.len() {
+            return Err((23, 0));
+        }
+        Ok(body)
+    });
+    assert_eq!(no(&answer), plain.as_ref().err().copied(), "seed {seed}");
+    let plain = plain.ok();
+    table_is(
+        seed,
+        &case.pair_table,
+        &pairs,
+        plain.as_ref().map(|body| body.pairs.as_slice()),
+    );
+    table_is(
+        seed,
+        &case.key_table,
+        &keys,
+        plain.as_ref().map(|body| body.keys.as_slice()),
+    );
+    let (Ok(read), Some(plain)) = (answer, plain) else {
+        return;
+    };
+
+    let n = read.numbers();
+    let numbers = [
+        n.version,
+        n.message_type,
+        n.suite,
+        n.content_type,
+        n.iv_length,
+        n.frame_length,
+    ];
+    assert_eq!(numbers, plain.numbers, "seed {seed}");
+    assert_eq!(
+        (read.id.start, read.id.within(&case.message)),
+        (plain.id.0, Some(&plain.id.1[..]))
+    );
+    let data = (read.suite_data.start, read.suite_data.within(&case.message));
+    assert_eq!(
+        data,
+        (plain.suite_data.0, Some(&plain.suite_data.1[..])),
+        "seed {seed}"
+    );
+    assert_eq!(
+        (read.pairs as usize, read.keys as usize),
+        (plain.pairs.len() / 2, plain.keys.len() / 3)
+    );
+    assert_eq!(read.tail, plain.tail, "seed {seed}");
+    if case.expected == Expected::Accepted {
+        let fields = &case.fields;
+        let wanted = [
+            fields.version,
+            fields.message_type,
+            fields.suite,
+            fields.content_type,
+            fields.iv_length,
+            fields.frame_length,
+        ];
+        assert_eq!(numbers, wanted, "seed {seed}");
+        assert_eq!(read.tail, case.end, "seed {seed}");
+        assert_eq!(read.id.within(&case.message), Some(&fields.id[..]));
+        assert_eq!(
+            read.suite_data.within(&case.message),
+            Some(&fields.suite_data[..])
+        );
+        let got = parts(&case.message, &pairs[..4 * read.pairs as usize]);
+        assert_eq!(got, pair_parts(&fields.pairs), "seed {seed}");
+        let got = parts(&case.message, &keys[..6 * read.keys as usize]);
+        assert_eq!(got, key_parts(&fields.keys), "seed {seed}");
+    }
+}
+
+pub fn auth(coverage: &mut Coverage) -> u64 {
+    const SEEDS: u64 = 100_000;
+    for seed in 0..SEEDS {
+        let case = auth_case(seed);
+        let answer = read_header_auth_tag(&case.message, case.start, case.suite);
+        coverage.count("read auth", &answer);
+        as_expected(seed, &answer, case.expected);
+        assert_ne!(case.expected, Expected::Open);
+        if let Ok(read) = answer {
+            assert_eq!(
+                (read.iv, read.tag, read.tail),
+                (case.iv, case.tag, case.end),
+                "seed {seed}"
+            );
+        }
+    }
+    SEEDS
+}

@@ -1,0 +1,159 @@
+//! The writers on generated requests.
+
+use crate::common::plain::{self, No};
+use crate::coverage::Coverage;
+use crate::reads::as_expected;
+use generator::auth_cases::auth_write_case;
+use generator::body_write_cases::body_write_case;
+use generator::fields::Fields;
+use generator::write_cases::{write_keys_case, write_section_case, WriteCase};
+use generator::Expected;
+use reference::*;
+
+/// The output begins with the image and keeps its bytes beyond; refused, it
+/// keeps them all. The second opinion's image is the same.
+fn output_is(
+    seed: u64,
+    answer: Result<u64, Refusal>,
+    (before, after): (&[u8], &[u8]),
+    plain: Result<Vec<u8>, No>,
+) {
+    let plain = match plain {
+        Ok(image) if image.len() > before.len() => Err((28, 0)),
+        other => other,
+    };
+    match (answer, plain) {
+        (Ok(length), Ok(image)) => {
+            assert_eq!(length, image.len() as u64, "seed {seed}");
+            assert_eq!(after[..image.len()], image, "seed {seed}");
+            assert_eq!(after[image.len()..], before[image.len()..], "seed {seed}");
+        }
+        (Err(refusal), Err(plain)) => {
+            assert_eq!((refusal.number, refusal.position), plain, "seed {seed}");
+            assert_eq!(before, after, "seed {seed}");
+        }
+        (answer, plain) => panic!("seed {seed}: {answer:?} against {plain:?}"),
+    }
+}
+
+fn section(
+    seed: u64,
+    case: &WriteCase,
+    operation: &'static str,
+    coverage: &mut Coverage,
+    write: impl Fn(&mut [u8]) -> Result<u64, Refusal>,
+    plain: Result<Vec<u8>, No>,
+) {
+    let mut out = case.out.clone();
+    let answer = write(&mut out);
+    coverage.count(operation, &answer);
+    as_expected(seed, &answer, case.expected);
+    assert_ne!(case.expected, Expected::Open);
+    if answer.is_ok() {
+        assert_eq!(out[..case.image.len()], case.image, "seed {seed}");
+    }
+    output_is(seed, answer, (&case.out, &out), plain);
+}
+
+pub fn sections(coverage: &mut Coverage) -> u64 {
+    const SEEDS: u64 = 150_000;
+    for seed in 0..SEEDS {
+        let case = write_section_case(seed);
+        let (text, table) = (&case.lent.text, &case.lent.pairs);
+        let plain = plain::write_section(text, table);
+        let write = |out: &mut [u8]| write_aad_section(text, table, out);
+        section(seed, &case, "write section", coverage, write, plain);
+    }
+    SEEDS
+}
+
+pub fn keys(coverage: &mut Coverage) -> u64 {
+    const SEEDS: u64 = 100_000;
+    for seed in 0..SEEDS {
+        let case = write_keys_case(seed);
+        let (text, table) = (&case.lent.text, &case.lent.keys);
+        let plain = plain::write_keys(text, table);
+        let write = |out: &mut [u8]| write_encrypted_data_keys_section(text, table, out);
+        section(seed, &case, "write keys", coverage, write, plain);
+    }
+    SEEDS
+}
+
+/// The numbers of fields, for the writer and for the second opinion.
+fn numbers(fields: &Fields) -> (Numbers, [u32; 6]) {
+    let numbers = Numbers {
+        version: fields.version,
+        message_type: fields.message_type,
+        suite: fields.suite,
+        content_type: fields.content_type,
+        iv_length: fields.iv_length,
+        frame_length: fields.frame_length,
+    };
+    let list = [
+        fields.version,
+        fields.message_type,
+        fields.suite,
+        fields.content_type,
+        fields.iv_length,
+        fields.frame_length,
+    ];
+    (numbers, list)
+}
+
+pub fn bodies(coverage: &mut Coverage) -> u64 {
+    const SEEDS: u64 = 300_000;
+    for seed in 0..SEEDS {
+        let case = body_write_case(seed);
+        let (fields, lent) = (&case.fields, &case.lent);
+        let (numbers, list) = numbers(fields);
+        let mut out = case.out.clone();
+        let answer = write_header_body(
+            &numbers,
+            &fields.id,
+            &fields.suite_data,
+            &lent.text,
+            &lent.pairs,
+            &lent.keys,
+            &mut out,
+        );
+        coverage.count("write body", &answer);
+        as_expected(seed, &answer, case.expected);
+        assert_ne!(case.expected, Expected::Open);
+        if answer.is_ok() {
+            assert_eq!(out[..case.image.len()], case.image, "seed {seed}");
+        }
+        let plain = plain::write_body(
+            list,
+            &fields.id,
+            &fields.suite_data,
+            &lent.text,
+            &lent.pairs,
+            &lent.keys,
+        );
+        output_is(seed, answer, (&case.out, &out), plain);
+    }
+    SEEDS
+}
+
+pub fn auth(coverage: &mut Coverage) -> u64 {
+    const SEEDS: u64 = 100_000;
+    for seed in 0..SEEDS {
+        let case = auth_write_case(seed);
+        let mut out = case.out.clone();
+        let answer = write_header_auth_tag(case.suite, &case.iv, &case.tag, &mut out);
+        coverage.count("write auth", &answer);
+        as_expected(seed, &answer, case.expected);
+        match answer {
+            Ok(length) => {
+                let end = case.image.len();
+                assert_eq!(length, end as u64, "seed {seed}");
+                assert_eq!(
+                    (&out[..end], &out[end..]),
+                    (&case.image[..], &case.out[end..])
+                );
+            }
+            Err(_) => assert_eq!(out, case.out, "seed {seed}"),
+        }
+    }
+    SEEDS
+}

@@ -1,0 +1,248 @@
+//! What is written is read again, and what is read is written again.
+
+mod common;
+
+use common::{key_parts, pair_parts, parts, report};
+use generator::body_cases::body_case;
+use generator::fields::{fields, Fields};
+use generator::image::Form;
+use generator::random::Random;
+use generator::sections::stretch;
+use generator::tables::lend;
+use reference::*;
+
+fn numbers(fields: &Fields) -> Numbers {
+    Numbers {
+        version: fields.version,
+        message_type: fields.message_type,
+        suite: fields.suite,
+        content_type: fields.content_type,
+        iv_length: fields.iv_length,
+        frame_length: fields.frame_length,
+    }
+}
+
+/// The fields at the places of a body that was read.
+fn gives(fields: &Fields, message: &[u8], body: &Body, pairs: &[u32], keys: &[u32]) {
+    assert_eq!(body.numbers(), numbers(fields));
+    assert_eq!(body.id.within(message), Some(&fields.id[..]));
+    assert_eq!(
+        body.suite_data.within(message),
+        Some(&fields.suite_data[..])
+    );
+    assert_eq!(
+        parts(message, &pairs[..4 * body.pairs as usize]),
+        pair_parts(&fields.pairs)
+    );
+    assert_eq!(
+        parts(message, &keys[..6 * body.keys as usize]),
+        key_parts(&fields.keys)
+    );
+}
+
+#[test]
+fn written_then_read() {
+    const SEEDS: u64 = 150_000;
+    let mut compared = 0;
+    for seed in 0..SEEDS {
+        let mut random = Random::new(seed);
+        let mut fields = fields(&mut random);
+        if seed % 1_000 == 0 {
+            let total = 65_533 - random.index(3);
+            stretch(&mut random, &mut fields.pairs, total);
+        }
+        let lent = lend(&mut random, &fields.pairs, &fields.keys);
+        let image = fields.image(Form::Today).bytes;
+        let before = random.length(20);
+        let behind = random.length(20);
+        let mut message = random.bytes(before + image.len() + behind);
+        let kept = message.clone();
+        let length = write_header_body(
+            &numbers(&fields),
+            &fields.id,
+            &fields.suite_data,
+            &lent.text,
+            &lent.pairs,
+            &lent.keys,
+            &mut message[before..],
+        );
+        let end = before + image.len();
+        assert_eq!(length, Ok(image.len() as u64), "seed {seed}");
+        assert_eq!(message[before..end], image, "seed {seed}");
+        assert_eq!(
+            (&message[..before], &message[end..]),
+            (&kept[..before], &kept[end..])
+        );
+
+        let one = if fields.version == 1 {
+            Which::V1
+        } else {
+            Which::V2
+        };
+        for (which, mode) in [
+            (Which::Either, Mode::Tolerant),
+            (Which::Either, Mode::Strict),
+            (one, Mode::Tolerant),
+            (one, Mode::Strict),
+        ] {
+            let mut pairs = vec![0; 4 * fields.pairs.len()];
+            let mut keys = vec![0; 6 * fields.keys.len()];
+            let max = Some(fields.keys.len() as u64);
+            let body = read_header_body(
+                &message,
+                before as u64,
+                which,
+                mode,
+                max,
+                &mut pairs,
+                &mut keys,
+            )
+            .unwrap_or_else(|refusal| panic!("seed {seed}: {refusal:?}"));
+            assert_eq!(body.tail, end as u64, "seed {seed}");
+            gives(&fields, &message, &body, &pairs, &keys);
+            compared += 1;
+        }
+    }
+    report("written then read", compared);
+}
+
+#[test]
+fn old_images_are_read_and_written_as_todays() {
+    const SEEDS: u64 = 100_000;
+    let mut old_forms = 0;
+    for seed in 0..SEEDS {
+        let mut random = Random::new(!seed);
+        let fields = fields(&mut random);
+        let old = fields.image(Form::Old).bytes;
+        let today = fields.image(Form::Today).bytes;
+        let mut pairs = vec![0; 4 * fields.pairs.len()];
+        let mut keys = vec![0; 6 * fields.keys.len()];
+        let mut read =
+            |mode| read_header_body(&old, 0, Which::Either, mode, None, &mut pairs, &mut keys);
+        let strict = read(Mode::Strict);
+        let body = read(Mode::Tolerant).unwrap();
+        if fields.pairs.is_empty() {
+            assert_eq!(
+                strict,
+                Err(Refusal {
+                    number: 21,
+                    position: 0
+                })
+            );
+            assert_eq!(old.len(), today.len() + 2);
+            old_forms += 1;
+        } else {
+            assert_eq!((strict, &old), (Ok(body), &today));
+        }
+        assert_eq!(body.tail, old.len() as u64);
+        gives(&fields, &old, &body, &pairs, &keys);
+        let mut out = vec![0; today.len()];
+        let length = write_again(&body, &old, &pairs, &keys, &mut out);
+        assert_eq!(
+            (length, out),
+            (Ok(today.len() as u64), today),
+            "seed {seed}"
+        );
+    }
+    println!("{old_forms} of them with 00 02 00 00");
+    assert!(old_forms > 0);
+    report("old images", SEEDS);
+}
+
+/// Writes a body from the message it was read in.
+fn write_again(
+    body: &Body,
+    message: &[u8],
+    pairs: &[u32],
+    keys: &[u32],
+    out: &mut [u8],
+) -> Result<u64, Refusal> {
+    let id = body.id.within(message).unwrap();
+    let data = body.suite_data.within(message).unwrap();
+    let pairs = &pairs[..4 * body.pairs as usize];
+    let keys = &keys[..6 * body.keys as usize];
+    write_header_body(&body.numbers(), id, data, message, pairs, keys, out)
+}
+
+/// Whatever is accepted, damaged or not, is written again to the bytes it was
+/// read from, but for the old form.
+#[test]
+fn read_then_written() {
+    const SEEDS: u64 = 400_000;
+    let mut compared = 0;
+    for seed in 1_000_000..1_000_000 + SEEDS {
+        let case = body_case(seed);
+        let (mut pairs, mut keys) = (vec![0; 4 * 64], vec![0; 6 * 64]);
+        let answer = read_header_body(
+            &case.message,
+            case.start,
+            Which::Either,
+            Mode::Tolerant,
+            None,
+            &mut pairs,
+            &mut keys,
+        );
+        let Ok(body) = answer else { continue };
+        let image = &case.message[case.start as usize..body.tail as usize];
+        let section = if body.version == 1 { 20 } else { 35 };
+        let mut wanted = image.to_vec();
+        if image[section..section + 4] == [0, 2, 0, 0] {
+            wanted.drain(section + 1..section + 3);
+            wanted[section] = 0;
+        }
+        let mut out = vec![0; wanted.len()];
+        let length = write_again(&body, &case.message, &pairs, &keys, &mut out);
+        assert_eq!(
+            (length, out),
+            (Ok(wanted.len() as u64), wanted),
+            "seed {seed}"
+        );
+        compared += 1;
+    }
+    assert!(compared >= 100_000, "{compared}");
+    report("read then written", compared);
+}
+
+#[test]
+fn sections_and_records_both_ways() {
+    const SEEDS: u64 = 100_000;
+    for seed in 0..SEEDS {
+        let mut random = Random::new(seed ^ 0x5EC7);
+        let fields = fields(&mut random);
+        let lent = lend(&mut random, &fields.pairs, &fields.keys);
+        let mut out = vec![0; 1 << 16];
+
+        let length = write_aad_section(&lent.text, &lent.pairs, &mut out).unwrap();
+        let mut pairs = vec![0; lent.pairs.len()];
+        let read = read_aad_section(&out, 0, Mode::Strict, &mut pairs).unwrap();
+        assert_eq!(
+            (read.pairs as usize, read.tail),
+            (fields.pairs.len(), length)
+        );
+        assert_eq!(
+            parts(&out, &pairs),
+            pair_parts(&fields.pairs),
+            "seed {seed}"
+        );
+        for (key, value) in &fields.pairs {
+            assert_eq!(find_part(&out, 0, key), value, "seed {seed}");
+            assert!(find(&out, 0, key).is_ok(), "seed {seed}");
+        }
+
+        let length = write_encrypted_data_keys_section(&lent.text, &lent.keys, &mut out).unwrap();
+        let mut keys = vec![0; lent.keys.len()];
+        let read = read_encrypted_data_keys_section(&out, 0, None, &mut keys).unwrap();
+        assert_eq!((read.keys as usize, read.tail), (fields.keys.len(), length));
+        assert_eq!(parts(&out, &keys), key_parts(&fields.keys), "seed {seed}");
+
+        let (iv, tag) = (random.bytes(12), random.bytes(16));
+        let length = write_header_auth_tag(fields.suite, &iv, &tag, &mut out).unwrap();
+        let read = read_header_auth_tag(&out, 0, fields.suite).unwrap();
+        let stored = if fields.version == 1 { iv } else { vec![0; 12] };
+        assert_eq!(
+            (&read.iv[..], &read.tag[..], read.tail),
+            (&stored[..], &tag[..], length)
+        );
+    }
+    report("sections and records both ways", 3 * SEEDS);
+}
