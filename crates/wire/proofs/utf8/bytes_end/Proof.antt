@@ -1,0 +1,20 @@
+use Prim.Native.Nat.{ℕ, _+_, _-_, _≤_, _<_}
+use mathlib.Core.Path.{_≡_}
+use mathlib.Core.Bool.{false}
+use lib.ListN.{length, getD, drop}
+use Rattle.wire.proofs.Utf8Laws.{passed-none, byte-more}
+use Rattle.wire.specs.Scan.{Passed}
+use borrow.Author.Needs.{needs}
+use Rattle.wire.proofs.utf8.bytes_end.Statement.{statement}
+use Rattle.wire.proofs.utf8.bytes_end.Tie as tie
+
+ruleset laws = (passed-none, byte-more, needs)
+
+abbrev Inv-loop : tie.InvT-loop
+Inv-loop m from i₀ i = Passed m from i
+
+abbrev μ-loop : tie.MeasureT-loop
+μ-loop m from i₀ i = length m - i
+
+pub bytes-end-spec : {M : Type 1} → statement M
+bytes-end-spec = tie.close (tie.spec Inv-loop μ-loop (λ c. search laws) (λ c. search laws) (λ c. search laws) (λ c. search laws) (λ c. search laws) (λ c. search laws) (λ c. search laws))

@@ -1,0 +1,94 @@
+// The refusals of document 01 by their numbers.
+
+// Accepted: no refusal.
+pub const NONE: u8 = 0;
+
+// The message's length or the start is above 4,294,967,295.
+pub const NOT_ADDRESSABLE: u8 = 1;
+
+// Bytes are missing; the position is the place that the message would have to reach.
+pub const SHORTAGE: u8 = 2;
+
+// The version byte is not 01 or 02.
+pub const VERSION: u8 = 3;
+
+// The version is not the one asked for.
+pub const OTHER_VERSION: u8 = 4;
+
+// The type is not 80 in version 1, or, writing, not 0 in version 2.
+pub const MESSAGE_TYPE: u8 = 5;
+
+// The suite is not in the table.
+pub const UNKNOWN_SUITE: u8 = 6;
+
+// The suite is of the other version.
+pub const SUITE_OF_OTHER_VERSION: u8 = 7;
+
+// A context section of length 2 has a count that is not 0.
+pub const COUNT_IN_EMPTY_CONTEXT: u8 = 8;
+
+// A context section of another length above 0 has the count 0.
+pub const NO_COUNT_IN_CONTEXT: u8 = 9;
+
+// A key of the context is not UTF-8.
+pub const KEY_NOT_UTF8: u8 = 10;
+
+// A value of the context is not UTF-8.
+pub const VALUE_NOT_UTF8: u8 = 11;
+
+// A key of the context was seen before.
+pub const KEY_SEEN_BEFORE: u8 = 12;
+
+// The pairs take 65,534 bytes or more.
+pub const PAIRS_TOO_LONG: u8 = 13;
+
+// The pairs do not end where the section's stored length says.
+pub const CONTEXT_LENGTH: u8 = 14;
+
+// The count of keys is above the maximum.
+pub const TOO_MANY_KEYS: u8 = 15;
+
+// A provider ID is not UTF-8.
+pub const PROVIDER_ID_NOT_UTF8: u8 = 16;
+
+// The content type is not 01 or 02.
+pub const CONTENT_TYPE: u8 = 17;
+
+// The reserved bytes are not 00 00 00 00.
+pub const RESERVED_BYTES: u8 = 18;
+
+// The IV length is not the suite's; writing version 2, it is not 0.
+pub const IV_LENGTH: u8 = 19;
+
+// Framed content with frame length 0, or non-framed content with another.
+pub const FRAME_LENGTH: u8 = 20;
+
+// Strict: an empty context in its old form, 00 02 00 00.
+pub const OLD_EMPTY_CONTEXT: u8 = 21;
+
+// The pair table is too short.
+pub const PAIR_TABLE_TOO_SHORT: u8 = 22;
+
+// The key table is too short.
+pub const KEY_TABLE_TOO_SHORT: u8 = 23;
+
+// The message ID does not have the version's length.
+pub const ID_LENGTH: u8 = 24;
+
+// The suite data do not have the version's length.
+pub const SUITE_DATA_LENGTH: u8 = 25;
+
+// A table is not in items of four or six numbers, or a place lies outside the lent text.
+pub const TABLE_OR_PLACE: u8 = 26;
+
+// More than 65,535 items, or a part above 65,535 bytes.
+pub const COUNT_OR_PART_TOO_LONG: u8 = 27;
+
+// The image is longer than the output.
+pub const OUTPUT_TOO_SHORT: u8 = 28;
+
+// No pair has the key.
+pub const NOT_FOUND: u8 = 29;
+
+// The tag is not 16 bytes.
+pub const TAG_LENGTH: u8 = 30;
