@@ -4,7 +4,7 @@ use mathlib.Core.List.{List, [], _∷_, _++_}
 use Prim.Native.Nat.{ℕ, zero, suc, _+_, _*_, _/_, _%_, _<_}
 use lib.Dec.{leb, eqb}
 use lib.ListN.{length, take, drop}
-use Rattle.format.specs.Read.{success, more-needed, Reader, _>>=_, _>>_, return, Answer, accepted, refused}
+use Rattle.format.specs.Read.{success, more-needed, Reader, _>>=_, _>>_, return, Answer, accepted, refused, addressable}
 
 -- the elements of a message are bytes
 abbrev pub Bytes : List ℕ → Type 0
@@ -24,6 +24,10 @@ read n l s = elim (leb n (length l)) [ true ↦ success (record { start = s; byt
 -- and nowhere else (specs/Pinned).
 unfoldable pub read-at : ℕ → List ℕ → ℕ → Answer Part
 read-at n m s = cond (leb (s + n) (length m)) (accepted (record { start = s; bytes = take n (drop s m) }) (s + n)) (refused 2 (s + n))
+
+-- and as an operation of its own
+unfoldable pub read-operation : ℕ → List ℕ → ℕ → Answer Part
+read-operation n m s = cond (addressable m s) (read-at n m s) (refused 1 0)
 
 -- the number whose bytes stand most significant first, behind the number n
 abbrev pub number-from : ℕ → List ℕ → ℕ

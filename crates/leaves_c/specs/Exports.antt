@@ -4,7 +4,7 @@ use mathlib.Core.Bool.{Bool, true, false, cond, _&&_}
 use mathlib.Core.List.{List}
 use lib.Dec.{leb}
 use lib.ListN.{length}
-use Rattle.format.specs.Read.{Answer, accepted, refused}
+use Rattle.format.specs.Read.{Answer}
 use Rattle.format.specs.Serialize.{Part, same-bytes, write-short-length-seq}
 use Rattle.format.specs.Utf8.{valid-utf8-seq}
 use Rattle.format.specs.Lent.{bytes-at}

@@ -5,11 +5,9 @@ use wire::Span;
 ghost use mathlib.Core.Path.{_≡_};
 ghost use Prim.Native.Nat.{_+_};
 ghost use lib.Dec.{leb};
-ghost use lib.ListN.{length};
 ghost use Rattle.format.specs.Read.{operation};
-ghost use Rattle.format.specs.Serialize.{read-uint8, read-uint16, read-uint32, read-short-length-seq};
+ghost use Rattle.format.specs.Serialize.{read-operation, read-uint8, read-uint16, read-uint32, read-short-length-seq};
 ghost use Rattle.format.specs.Shared.{suite-version};
-ghost use Rattle.wire.specs.Codes.{bytes-operation};
 ghost use Rattle.leaves_c.specs.Exports.{number-record, part-record, number-fields, part-fields, truth, order-number, utf8-number, same-number, compare-number, can-put, put-number, put-output};
 
 // A number that was read: refusal 0 where it was accepted.
@@ -101,7 +99,7 @@ pub extern "C" fn leaf_read_u32(m: &[u8], start: u64) -> LeafNumber
 
 #[no_mangle]
 pub extern "C" fn leaf_read_bytes(m: &[u8], start: u64, n: u32) -> LeafPart
-    ensures { λ r. ⌜ r ≡ part-record (bytes-operation n (now (m .entry)) start) ⌝ }
+    ensures { λ r. ⌜ r ≡ part-record (read-operation n (now (m .entry)) start) ⌝ }
 {
     part_record(wire::operations::read_bytes(m, start, n))
 }

@@ -1,5 +1,5 @@
 -- A reader whose bytes have to be there as a whole, at a place. Assumes nothing.
-use mathlib.Core.Path.{_≡_, refl, sym, ap, _∙_}
+use mathlib.Core.Path.{_≡_, refl, sym, _∙_}
 use mathlib.Core.Bool.{Bool, true, false, cond}
 use mathlib.Core.List.{List}
 use Prim.Native.Nat.{ℕ, _+_, _≤_, _<_}
@@ -7,7 +7,7 @@ use native.Mathlib.Omega.{arith}
 use lib.Dec.{leb, eqb}
 use lib.ListN.{length, drop, length-drop}
 use Rattle.format.specs.Read.{ReadResult, success, more-needed, error, Reader, go-on, _>>=_, return, test, framed, Answer, accepted, refused, answer, at}
-use Rattle.format.proofs.Tests.{leb-is, nleb-is, is-leb, is-nleb, eqb-is, neqb-is}
+use Rattle.format.proofs.Tests.{is-leb, is-nleb, eqb-is, neqb-is}
 use Rattle.format.proofs.Exact.{framed-fits, framed-short}
 use Rattle.steps.proofs.Steps.{refused-is-none, onward, onward-accepted}
 

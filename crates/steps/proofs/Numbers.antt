@@ -1,14 +1,14 @@
 -- Bytes and numbers at a place: one law over the width, and the numbers of 1, 2 and 4 bytes. Assumes nothing.
 use mathlib.Core.Path.{_≡_, refl, sym, ap, _∙_}
 use mathlib.Core.Bool.{Bool, true, false}
-use mathlib.Core.List.{List, [], _∷_}
-use Prim.Native.Nat.{ℕ, suc, _+_, _*_, _-_, _≤_, _<_}
+use mathlib.Core.List.{List}
+use Prim.Native.Nat.{ℕ, suc, _+_, _-_, _≤_, _<_}
 use native.Mathlib.Omega.{arith}
 use lib.Dec.{leb}
-use lib.ListN.{length, take, drop, getD, length-drop}
+use lib.ListN.{length, take, drop, length-drop}
 use lib.Seq.{drop-cons, length-take-le}
-use Rattle.format.specs.Read.{accepted, refused, at, return}
-use Rattle.format.specs.Serialize.{Part, number, read, read-uint, read-uint8, read-uint16, read-uint32}
+use Rattle.format.specs.Read.{accepted, refused, at}
+use Rattle.format.specs.Serialize.{Part, read, read-uint, read-uint8, read-uint16, read-uint32}
 use Rattle.format.proofs.Tests.{is-leb, is-nleb}
 use Rattle.format.proofs.Serialize.{read-fits, read-short}
 use Rattle.steps.specs.Places.{number-here, number8, number16, number32, part-of}

@@ -5,8 +5,8 @@ use mathlib.Core.List.{List}
 use Prim.Native.Nat.{ℕ, _≤_, _<_}
 use lib.Dec.{leb}
 use lib.ListN.{length}
-use Rattle.format.specs.Read.{Reader, Answer, accepted, refused, at, addressable, operation}
-use Rattle.format.proofs.Tests.{leb-is, nleb-is, is-leb, is-nleb}
+use Rattle.format.specs.Read.{Reader, accepted, refused, at, addressable, operation}
+use Rattle.format.proofs.Tests.{leb-is, nleb-is, is-leb}
 use Rattle.steps.proofs.Steps.{refused-is-none}
 
 module _ (m : List ℕ) (s : ℕ) where

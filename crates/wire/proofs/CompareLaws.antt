@@ -1,7 +1,7 @@
 -- The ways out of the functions that compare, one law each. Assumes nothing.
 use Prim.Native.Nat.{ℕ, zero, suc, _+_, _-_, _≤_, _<_}
-use mathlib.Core.Path.{_≡_, refl, sym, ap, ap₂, _∙_}
-use mathlib.Core.Bool.{Bool, true, false, cond, _&&_, true≢false}
+use mathlib.Core.Path.{_≡_, refl, sym, ap, _∙_}
+use mathlib.Core.Bool.{Bool, true, false, cond, _&&_, true≢false, false≢true}
 use mathlib.Core.List.{List, [], _∷_}
 use native.Mathlib.Omega.{arith}
 use native.Mathlib.Nat.{add-sub-cancel-left}
@@ -11,10 +11,14 @@ use lib.ListN.{length, getD, take, drop, drop-of-length-le}
 use lib.Seq.{drop-cons}
 use lib.Dec.{leb, eqb}
 use Rattle.format.specs.Serialize.{same-bytes}
-use Rattle.wire.specs.Order.{compare-bytes, Alike, Agree, Stopped, Fewer, Parted}
+use Rattle.wire.specs.Order.{compare-bytes, Unlike, Alike, Agree, Halted, Stopped, Fewer, Parted}
 use Rattle.wire.specs.declared.Order.{Order}
 use Rattle.wire.specs.declared.Order.the-variants.{Less, Equal, Greater}
 use Rattle.wire.proofs.Ordered.{first-under, first-over, first-same}
+
+and-false : (t : Bool) → false ≡ t && false
+and-false true = refl
+and-false false = refl
 
 -- a block, byte by byte
 pub differs-was : (x y : ℕ) (was : Bool) → x ≡ y → was ≡ cond (eqb x y) was true
@@ -23,22 +27,29 @@ differs-was x y was e = sym (rw (eq-eqb x y e))
 pub differs-is : (x y : ℕ) (was : Bool) → (x ≡ y → ⊥) → true ≡ cond (eqb x y) was true
 differs-is x y was e = sym (rw (ne-eqb x y e))
 
-pub alike-none : (a b : List ℕ) (i : ℕ) (differs : Bool) → Alike a b i 0 differs
-alike-none a b i differs = record { alike = λ e k h. absurd (omega arith) }
+pub alike-none : (a b : List ℕ) (i : ℕ) → Alike a b i 0 false
+alike-none a b i = record { alike = λ e k h. absurd (omega arith); unlike = λ e. absurd (false≢true e) }
 
 pub alike-more : (a b : List ℕ) (i k : ℕ) (was is : Bool) → Alike a b i k was → is ≡ cond (eqb (getD a (i + k) 0) (getD b (i + k) 0)) was true → Alike a b i (k + 1) is
-alike-more a b i k was is x e = record { alike = λ f. by (eqb (getD a (i + k) 0) (getD b (i + k) 0)) refl (sym e ∙ f) }
+alike-more a b i k was is x e = record { alike = λ f. by (eqb (getD a (i + k) 0) (getD b (i + k) 0)) refl (sym e ∙ f); unlike = λ f. or (eqb (getD a (i + k) 0) (getD b (i + k) 0)) refl (sym e ∙ f) }
   where
     by : (t : Bool) → eqb (getD a (i + k) 0) (getD b (i + k) 0) ≡ t → cond t was true ≡ false → (j : ℕ) → j < k + 1 → getD a (i + j) 0 ≡ getD b (i + j) 0
     by true q f = below-more _ _ (x .alike f) (eqb-true _ _ q)
     by false q f = absurd (true≢false f)
 
-pub alike-all : (a b : List ℕ) (i n k : ℕ) (is : Bool) → Alike a b i k is → n ≤ k → Alike a b i n is
-alike-all a b i n k is x h = record { alike = λ e j p. x .alike e j (omega arith) }
+    or : (t : Bool) → eqb (getD a (i + k) 0) (getD b (i + k) 0) ≡ t → cond t was true ≡ true → Unlike a b i (k + 1)
+    or true q f = let u = x .unlike f in record { place = u .place; below = omega (arith, u .below); differ = u .differ }
+    or false q f = record { place = k; below = omega arith; differ = eqb-false _ _ q }
+
+pub alike-all : (a b : List ℕ) (i n k : ℕ) (is : Bool) → Alike a b i k is → k ≤ n → n ≤ k → Alike a b i n is
+alike-all a b i n k is x h g = let e : k ≡ n = omega arith in rw e at x
 
 -- what two strings have in common
 pub agree-none : (a b : List ℕ) (to : ℕ) → Fewer (length a) (length b) to → Agree a b to 0
 agree-none a b to h = record { inA = h .first; inB = h .second; within = omega arith; same = λ k h. absurd (omega arith) }
+
+pub agree-start : (a b : List ℕ) → length a ≡ length b → Agree a b (length a) 0
+agree-start a b e = record { inA = omega arith; inB = omega arith; within = omega arith; same = λ k h. absurd (omega arith) }
 
 pub agree-block : (a b : List ℕ) (to i n : ℕ) (differs : Bool) → Agree a b to i → n ≤ to - i → Alike a b i n differs → differs ≡ false → Agree a b to (i + n)
 agree-block a b to i n differs x p y e =
@@ -53,6 +64,15 @@ agree-block a b to i n differs x p y e =
 
 pub agree-byte : (a b : List ℕ) (to i : ℕ) → Agree a b to i → i < to → getD a i 0 ≡ getD b i 0 → Agree a b to (i + 1)
 agree-byte a b to i x p e = record { inA = x .inA; inB = x .inB; within = omega arith; same = below-more _ _ (x .same) e }
+
+pub halted-end : (a b : List ℕ) (to n i : ℕ) → Agree a b to i → to - i < n → Halted a b to n i
+halted-end a b to n i x h = record { agree = x; unlike = λ p. absurd (omega arith) }
+
+pub halted-block : (a b : List ℕ) (to n i : ℕ) (differs : Bool) → Agree a b to i → Alike a b i n differs → differs ≡ true → Halted a b to n i
+halted-block a b to n i differs x y e = record { agree = x; unlike = λ p. y .unlike e }
+
+pub halted-agree : (a b : List ℕ) (to n i : ℕ) → Halted a b to n i → Agree a b to i
+halted-agree a b to n i x = x .agree
 
 module _ (a b : List ℕ) (to i : ℕ) (x : Agree a b to i) where
   pub stopped-end : to ≤ i → Stopped a b to i
@@ -134,16 +154,47 @@ module _ (a b : List ℕ) (r : ℕ) (x : Parted a b r) where
           let g : r < length b = omega arith in
           sym (remains ∙ rw (drop-cons a r 0 p, drop-cons b r 0 g, ne-eqb _ _ (x .differ p g)))
 
+-- a byte that differs; and bytes that are all the same
+same-differs : (k : ℕ) (a b : List ℕ) → k < length a → k < length b → (getD a k 0 ≡ getD b k 0 → ⊥) → false ≡ same-bytes a b
+unfolding same-bytes
+same-differs k [] b p q h = absurd (omega arith)
+same-differs k (x ∷ s) [] p q h = absurd (omega arith)
+same-differs zero (x ∷ s) (y ∷ t) p q h = sym (rw (ne-eqb x y h))
+same-differs (suc k) (x ∷ s) (y ∷ t) p q h = and-false (eqb x y) ∙ ap (λ (u : Bool). eqb x y && u) (same-differs k s t (omega arith) (omega arith) h)
+
+module _ (a b : List ℕ) (n : ℕ) (e : length a ≡ length b) where
+  same-at : (i : ℕ) → i + n ≤ length a → Unlike a b i n → false ≡ same-bytes a b
+  same-at i h u = let p = u .below in same-differs (i + u .place) a b (omega arith) (omega arith) (u .differ)
+
+  pub same-halted : (i : ℕ) → Halted a b (length a) n i → n ≤ length a - i → false ≡ same-bytes a b
+  same-halted i x h = let q = x .agree .within in same-at i (omega arith) (x .unlike h)
+
+  pub same-last : (differs : Bool) → n ≤ length a → Alike a b (length a - n) n differs → differs ≡ true → false ≡ same-bytes a b
+  same-last differs h y f = same-at (length a - n) (omega arith) (y .unlike f)
+
+  pub same-covered : (i : ℕ) (differs : Bool) → n ≤ length a → Halted a b (length a) n i → length a - i < n → Alike a b (length a - n) n differs → differs ≡ false → true ≡ same-bytes a b
+  unfolding same-bytes
+  same-covered i differs h x g y f =
+      let p : length a ≤ length a = omega arith in
+      let q : length b ≤ length a = omega arith in
+      sym (same-rest (length a) a b p (omega arith) all ∙ rw (drop-of-length-le a p, drop-of-length-le b q))
+    where
+      by : (k : ℕ) (t : Bool) → leb (length a - n) k ≡ t → k < length a → getD a k 0 ≡ getD b k 0
+      by k true u l =
+          let g′ : length a - n ≤ k = leb-true (length a - n) k u in
+          let j : length a - n + (k - (length a - n)) ≡ k = omega arith in
+          rw j at (y .alike f (k - (length a - n)) (omega arith))
+      by k false u l = let v : k < length a - n = leb-false (length a - n) k u in let w = x .agree .within in x .agree .same k (omega arith)
+
+      all : (k : ℕ) → k < length a → getD a k 0 ≡ getD b k 0
+      all k l = by k (leb (length a - n) k) refl l
+
 pub same-lengths : (a b : List ℕ) → (length a ≡ length b → ⊥) → false ≡ same-bytes a b
 unfolding same-bytes
 same-lengths [] [] h = absurd (h refl)
 same-lengths [] (y ∷ t) h = refl
 same-lengths (x ∷ s) [] h = refl
 same-lengths (x ∷ s) (y ∷ t) h = and-false (eqb x y) ∙ ap (λ (u : Bool). eqb x y && u) (same-lengths s t (λ e. h (ap suc e)))
-  where
-    and-false : (t : Bool) → false ≡ t && false
-    and-false true = refl
-    and-false false = refl
 
 -- parts, lent as slices of their own
 module _ (m w : List ℕ) (a n b k : ℕ) where

@@ -1,25 +1,26 @@
 -- The ways out of the functions that read, and what holds of what was read. Assumes nothing.
 use Prim.Native.Nat.{ℕ, _+_, _-_, _≤_, _<_}
 use mathlib.Core.Path.{_≡_, refl, sym, ap, _∙_}
-use mathlib.Core.Bool.{Bool, true, false, cond}
+use mathlib.Core.Bool.{Bool, true, false}
 use mathlib.Core.List.{List}
 use native.Mathlib.Omega.{arith}
 use lib.Dec.{leb}
-use lib.ListN.{length, take, drop}
+use lib.ListN.{length}
 use borrow.Author.Tests.{le-leb, lt-leb, leb-true, leb-false}
-use Rattle.format.specs.Read.{Answer, accepted, refused, at, addressable}
-use Rattle.format.specs.Serialize.{Part, read, read-uint8, read-uint16, read-uint32, read-short-length-seq}
-use Rattle.steps.specs.Places.{number16, part-of}
-use Rattle.steps.proofs.Operations.{too-long, too-far, in-reach}
-use Rattle.steps.proofs.Numbers.{There, length-part, read-got, read-lacks, uint8-known, uint16-known, uint32-known}
-use Rattle.steps.proofs.Entries.{entry-after, entry-stops, entry-known}
-use Rattle.wire.specs.Codes.{because, number-of, span-of, why-number, bytes-here, bytes-operation}
+use Rattle.format.specs.Read.{accepted, refused, at, addressable}
+use Rattle.format.specs.Serialize.{read, read-at, read-operation, read-uint16, read-short-length-seq}
+use Rattle.format.proofs.Pinned.{pinned}
+use Rattle.steps.specs.Places.{part-of}
+use Rattle.steps.proofs.Operations.{too-long}
+use Rattle.steps.proofs.Numbers.{length-part, uint16-known}
+use Rattle.steps.proofs.Entries.{entry-after, entry-stops}
+use Rattle.wire.specs.Codes.{number-of, span-of, why-number}
 use Rattle.wire.specs.declared.Refusal.{Refusal}
 use Rattle.wire.specs.declared.Number.{Number}
 use Rattle.wire.specs.declared.Number.the-variants as number
 use Rattle.wire.specs.declared.Span.{Span}
 use Rattle.wire.specs.declared.Span.the-variants as span
-use Rattle.wire.proofs.Answers.{number-got, number-no, Given, span-got}
+use Rattle.wire.proofs.Answers.{number-got, number-no}
 
 -- the guard
 module _ (m : List ℕ) (s : ℕ) where
@@ -31,38 +32,31 @@ module _ (m : List ℕ) (s : ℕ) where
 
 -- n bytes
 module _ (m : List ℕ) (s n : ℕ) where
-  pub bytes-got : s + n ≤ length m → bytes-here n m s ≡ accepted (part-of m s n) (s + n)
-  unfolding bytes-here
+  pub bytes-got : s + n ≤ length m → read-at n m s ≡ accepted (part-of m s n) (s + n)
+  unfolding read-at
   bytes-got h = rw (le-leb (s + n) (length m) h)
 
-  pub bytes-no : length m < s + n → bytes-here n m s ≡ refused 2 (s + n)
-  unfolding bytes-here
+  pub bytes-no : length m < s + n → read-at n m s ≡ refused 2 (s + n)
+  unfolding read-at
   bytes-no h = rw (lt-leb (s + n) (length m) h)
 
-  pub bytes-there : s + n ≤ length m → span.At s n (s + n) ≡ span-of (bytes-here n m s)
+  pub bytes-there : s + n ≤ length m → span.At s n (s + n) ≡ span-of (read-at n m s)
   bytes-there h = rw (bytes-got h, length-part m s n h)
 
-  bytes-are : (length m < s + n → length m - s < n) → bytes-here n m s ≡ at (read n) m s
-  bytes-are f = by (leb (s + n) (length m)) refl
-    where
-      by : (b : Bool) → leb (s + n) (length m) ≡ b → bytes-here n m s ≡ at (read n) m s
-      by true q = let h = leb-true _ _ q in bytes-got h ∙ sym (read-got m s n h)
-      by false q = let h = leb-false _ _ q in bytes-no h ∙ sym (read-lacks m s n (f h))
-
   -- it is what the reader answers, behind something that was read or of one byte at least
-  pub bytes-read : s ≤ length m → bytes-here n m s ≡ at (read n) m s
-  bytes-read k = bytes-are (λ h. omega arith)
+  pub bytes-read : s ≤ length m → read-at n m s ≡ at (read n) m s
+  bytes-read k = sym (pinned .within-the-message n m s k)
 
-  pub bytes-read-some : 0 < n → bytes-here n m s ≡ at (read n) m s
-  bytes-read-some k = bytes-are (λ h. omega arith)
+  pub bytes-read-some : 0 < n → read-at n m s ≡ at (read n) m s
+  bytes-read-some k = sym (pinned .some-bytes n m s k)
 
   module _ (b : Bool) (is : b ≡ addressable m s) where
-    pub bytes-opened : b ≡ true → bytes-here n m s ≡ bytes-operation n m s
-    unfolding bytes-operation
+    pub bytes-opened : b ≡ true → read-at n m s ≡ read-operation n m s
+    unfolding read-operation
     bytes-opened e = rw (sym is ∙ e)
 
-    pub bytes-guarded : b ≡ false → bytes-operation n m s ≡ refused 1 0
-    unfolding bytes-operation
+    pub bytes-guarded : b ≡ false → read-operation n m s ≡ refused 1 0
+    unfolding read-operation
     bytes-guarded e = rw (sym is ∙ e)
 
 -- an entry

@@ -1,17 +1,17 @@
 -- Laws of `stored`: one store, stores side by side, a store into a part; and the ways out of the functions that write.
 -- Assumes nothing.
-use mir.Syntax.{w16, w32}
+use mir.Syntax.{w16}
 use mir.Val.{Fits}
-use Prim.Native.Nat.{ℕ, suc, _^_, _+_, _-_, _*_, _/_, _%_, _≤_, _<_}
+use Prim.Native.Nat.{ℕ, suc, _+_, _-_, _/_, _%_, _≤_, _<_}
 use mathlib.Core.Path.{_≡_, refl, sym, ap, _∙_}
 use mathlib.Core.List.{List, [], _∷_, _++_, append-assoc, append-nil}
 use native.Mathlib.Omega.{arith}
 use native.Mathlib.Nat.{add-zero, zero-add, add-sub-cancel-left}
 use native.Mathlib.Numerals.{add-one}
-use lib.ListN.{length, getD, take, drop, set, length-append, length-take, length-drop, length-set, take-append-drop, drop-of-length-le}
+use lib.ListN.{length, getD, take, drop, set, length-append, length-take, length-drop, take-append-drop, drop-of-length-le}
 use borrow.Rule.Slice.PartMut.{putMid}
 use lib.Seq.{set-split, take-suc, take-all, take-at, drop-at, drop-drop, length-take-le, take-length}
-use Rattle.format.specs.Serialize.{write-uint, write-uint16, write-uint32, write-short-length-seq}
+use Rattle.format.specs.Serialize.{write-uint16, write-uint32, write-short-length-seq}
 use Rattle.format.proofs.Serialize.{length-uint16}
 use Rattle.steps.proofs.Numbers.{length-part}
 use Rattle.wire.specs.Stored.{stored}

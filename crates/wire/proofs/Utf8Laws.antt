@@ -1,16 +1,16 @@
 -- The ways out of the functions that `is_utf8` is made of, one law each. Assumes nothing.
 use Prim.Native.Nat.{ℕ, zero, suc, _+_, _-_, _≤_, _<_}
 use mathlib.Core.Path.{_≡_, refl, sym, ap, _∙_}
-use mathlib.Core.Bool.{Bool, true, false, cond, _&&_, true≢false}
+use mathlib.Core.Bool.{Bool, true, false, cond, _&&_, true≢false, false≢true}
 use mathlib.Core.List.{List, [], _∷_}
 use native.Mathlib.Omega.{arith}
 use native.Mathlib.Nat.{add-zero, sub-zero, add-sub-cancel-left}
 use borrow.Author.Count.{below-more}
 use borrow.Author.Tests.{le-leb, lt-leb, leb-false, eq-eqb, ne-eqb}
 use lib.ListN.{length, getD, take, drop, length-drop}
-use lib.Dec.{leb}
+use lib.Dec.{T, leb, leb→le}
 use Rattle.format.specs.Utf8.{Range, _‥_, has, tail, rows, never, due, first-byte, octets, valid-utf8-seq}
-use Rattle.wire.specs.Scan.{Low, tails, Tails, Scan, Passed, Advanced}
+use Rattle.wire.specs.Scan.{Low, tails, Tails, Scan, Two, Passed, Advanced}
 use Rattle.wire.proofs.Octets.{due-00, due-C2, due-E0, due-E1, due-ED, due-EE, due-F0, due-F1, due-F4, never-80, never-F5, opens, follows, never-any, too-few, valid-end}
 
 -- bytes below 128
@@ -61,6 +61,9 @@ low-all m i n k is x h = record { low = λ e j p. x .low e j (omega arith) }
 module _ (m : List ℕ) (from : ℕ) (h : from < length m) (k : getD m from 0 < 128) where
   pub ascii-bytes : (r : ℕ) → Passed m (from + 1) r → Advanced m from r
   ascii-bytes r x = record { passed = passed-on m from (from + 1) r (passed-byte m from h k) x; some = omega (arith, x .after) }
+
+  pub ascii-alone : Advanced m from (from + 1)
+  ascii-alone = record { passed = passed-byte m from h k; some = omega arith }
 
 pub ascii-blocks : (m : List ℕ) (from wide narrow r : ℕ) (high : Bool) → 16 ≤ length m - from
     → Low m from 16 high → high ≡ false → from < length m
@@ -143,8 +146,9 @@ module _ (m : List ℕ) (i : ℕ) (h : i < length m) where
   none : first-byte rows (getD m i 0) ≡ never → Scan m i [] i 0
   none e = record { fits = omega arith; goes = opens m i never h e ∙ never-any (drop (i + 1) m) }
 
-  pub lead-80 : 0x80 ≤ getD m i 0 → getD m i 0 < 0xC2 → Scan m i [] i 0
-  lead-80 p q = none (never-80 (getD m i 0) p q)
+  -- the bytes from 80 up to a bound that is at most C2
+  pub lead-80 : (c : ℕ) → 0x80 ≤ getD m i 0 → getD m i 0 < c → T (leb c 0xC2) → Scan m i [] i 0
+  lead-80 c p q t = let k : c ≤ 0xC2 = leb→le c 0xC2 t in none (never-80 (getD m i 0) p (omega arith))
 
   pub lead-F5 : 0xF5 ≤ getD m i 0 → Scan m i [] i 0
   lead-F5 p = none (never-F5 (getD m i 0) p)
@@ -181,6 +185,28 @@ module _ (m : List ℕ) (i : ℕ) (h : i < length m) where
     pub lead-F4 : 0xF4 ≤ getD m i 0 → getD m i 0 < 0xF5 → Scan m (i + 1) (0x80 ‥ 0x8F ∷ tails 2) i r → Scan m i [] i r
     unfolding tails
     lead-F4 p q s = begins _ r (due-F4 (getD m i 0) p q) s
+
+-- a character of two bytes
+pub two-not : (m : List ℕ) (i : ℕ) → Two m i false
+two-not m i = record { stands = λ e. absurd (false≢true e) }
+
+pub two-is : (m : List ℕ) (i : ℕ) (t : Bool) → i + 2 ≤ length m → 0xC2 ≤ getD m i 0 → getD m i 0 < 0xE0 → t ≡ has tail (getD m (i + 1) 0) → Two m i t
+two-is m i t h p q is = record { stands = passed }
+  where
+    passed : t ≡ true → Passed m i (i + 2)
+    passed e =
+        let f : i + 1 + 1 ≡ i + 2 = omega arith in
+        record {
+          after = omega arith;
+          fits = h;
+          goes =
+              opens m i (due (tail ∷ [])) (omega arith) (due-C2 (getD m i 0) p q)
+              ∙ follows m (i + 1) tail [] true (omega arith) (sym is ∙ e)
+              ∙ ap (λ (j : ℕ). valid-utf8-seq (drop j m)) f;
+        }
+
+pub two-more : (m : List ℕ) (from i : ℕ) (t : Bool) → Passed m from i → Two m i t → t ≡ true → Passed m from (i + 2)
+two-more m from i t x y e = passed-on m from i (i + 2) x (y .stands e)
 
 -- the loop of `is_utf8`
 module _ (m : List ℕ) (i : ℕ) (x : Passed m 0 i) where

@@ -1,12 +1,8 @@
 -- The code's answers, of what a reader answers. Assumes nothing.
-use Prim.Native.Nat.{ℕ, _+_, _<_}
-use mathlib.Core.Bool.{cond}
-use mathlib.Core.List.{List}
-use lib.Dec.{leb}
+use Prim.Native.Nat.{ℕ, _<_}
 use lib.ListN.{length}
-use Rattle.format.specs.Read.{Answer, accepted, refused, addressable}
+use Rattle.format.specs.Read.{Answer, accepted, refused}
 use Rattle.format.specs.Serialize.{Part}
-use Rattle.steps.specs.Places.{part-of}
 use Rattle.wire.specs.declared.Refusal.{Refusal}
 use Rattle.wire.specs.declared.Number.{Number}
 use Rattle.wire.specs.declared.Number.the-variants as number
@@ -37,12 +33,3 @@ why-span (span.Not r) = r
 abbrev pub Below : ℕ → Number → Type 0
 Below n (number.Is v t) = v < n
 Below n (number.Not r) = Unit {0}
-
--- Read of n bytes at s, in document 01's words: it succeeds when s + n is at most the message's length, n = 0 included; else
--- shortage at s + n. The reader `read n` sees only the bytes left, so the two differ for n = 0 past the end, and nowhere else.
-unfoldable pub bytes-here : ℕ → List ℕ → ℕ → Answer Part
-bytes-here n m s = cond (leb (s + n) (length m)) (accepted (part-of m s n) (s + n)) (refused 2 (s + n))
-
--- the same as an operation of its own
-unfoldable pub bytes-operation : ℕ → List ℕ → ℕ → Answer Part
-bytes-operation n m s = cond (addressable m s) (bytes-here n m s) (refused 1 0)

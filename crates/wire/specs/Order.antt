@@ -1,7 +1,7 @@
 -- The order of byte strings, and what the steps of comparing say to each other. Assumes nothing.
-use Prim.Native.Nat.{ℕ, _+_, _≤_, _<_}
+use Prim.Native.Nat.{ℕ, _+_, _-_, _≤_, _<_}
 use mathlib.Core.Path.{_≡_}
-use mathlib.Core.Bool.{Bool, false, cond}
+use mathlib.Core.Bool.{Bool, true, false, cond}
 use mathlib.Core.List.{List, [], _∷_}
 use lib.Dec.{ltb}
 use lib.ListN.{length, getD}
@@ -21,9 +21,16 @@ flip Less = Greater
 flip Equal = Equal
 flip Greater = Less
 
--- where `differs` is false, the n bytes from i are the same
+-- one of the n bytes from i differs
+pub record Unlike (a b : List ℕ) (i n : ℕ) : Type 0 where
+  pub place : ℕ
+  pub below : place < n
+  pub differ : getD a (i + place) 0 ≡ getD b (i + place) 0 → ⊥
+
+-- whether one does
 pub record Alike (a b : List ℕ) (i n : ℕ) (differs : Bool) : Type 0 where
   pub alike : differs ≡ false → (k : ℕ) → k < n → getD a (i + k) 0 ≡ getD b (i + k) 0
+  pub unlike : differs ≡ true → Unlike a b i n
 
 -- both strings have bytes up to `to`, and those up to r are the same
 pub record Agree (a b : List ℕ) (to r : ℕ) : Type 0 where
@@ -31,6 +38,11 @@ pub record Agree (a b : List ℕ) (to r : ℕ) : Type 0 where
   pub inB : to ≤ length b
   pub within : r ≤ to
   pub same : (k : ℕ) → k < r → getD a k 0 ≡ getD b k 0
+
+-- and the next block of n is not there, or it differs
+pub record Halted (a b : List ℕ) (to n r : ℕ) : Type 0 where
+  pub agree : Agree a b to r
+  pub unlike : n ≤ to - r → Unlike a b r n
 
 -- and there it ends, or they differ
 pub record Stopped (a b : List ℕ) (to r : ℕ) : Type 0 where

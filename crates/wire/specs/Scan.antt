@@ -35,3 +35,7 @@ pub record Advanced (m : List ℕ) (i r : ℕ) : Type 0 where
 -- where `high` is false, the n bytes from i are below 128
 pub record Low (m : List ℕ) (i n : ℕ) (high : Bool) : Type 0 where
   pub low : high ≡ false → (k : ℕ) → k < n → getD m (i + k) 0 < 128
+
+-- where r is true, a character of two bytes stands at i
+pub record Two (m : List ℕ) (i : ℕ) (r : Bool) : Type 0 where
+  pub stands : r ≡ true → Passed m i (i + 2)

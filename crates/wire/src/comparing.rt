@@ -7,7 +7,7 @@ ghost use lib.Dec.{eqb};
 ghost use lib.ListN.{length};
 ghost use Rattle.format.specs.Serialize.{same-bytes};
 ghost use Rattle.format.specs.Lent.{bytes-at};
-ghost use Rattle.wire.specs.Order.{compare-bytes, Alike, Agree, Stopped, Fewer, Parted};
+ghost use Rattle.wire.specs.Order.{compare-bytes, Alike, Agree, Halted, Stopped, Fewer, Parted};
 
 // Whether `differs` is, or x is not y.
 fn or_differs(differs: bool, x: u8, y: u8) -> bool
@@ -16,7 +16,7 @@ fn or_differs(differs: bool, x: u8, y: u8) -> bool
     if x == y { differs } else { true }
 }
 
-// Whether the n bytes from `at` may differ.
+// Whether the n bytes from `at` differ.
 fn block_differs(a: &[u8], b: &[u8], at: usize, n: usize) -> bool
     requires { ⌜ (at + n ≤ length (now a)) × (at + n ≤ length (now b)) ⌝ }
     ensures { λ r. ⌜ Alike (now (a .entry)) (now (b .entry)) at n r ⌝ }
@@ -33,7 +33,7 @@ fn block_differs(a: &[u8], b: &[u8], at: usize, n: usize) -> bool
 // Passes blocks of n bytes that are the same.
 fn blocks_agree(a: &[u8], b: &[u8], from: usize, to: usize, n: usize) -> usize
     requires { ⌜ Agree (now a) (now b) to from × (0 < n) ⌝ }
-    ensures { λ r. ⌜ Agree (now (a .entry)) (now (b .entry)) to r ⌝ }
+    ensures { λ r. ⌜ Halted (now (a .entry)) (now (b .entry)) to n r ⌝ }
 {
     let mut i = from;
     while n <= to - i {
@@ -76,13 +76,38 @@ fn common_len(a: &[u8], b: &[u8]) -> usize
     bytes_agree(a, b, narrow, to)
 }
 
+// Whether two strings of one length are equal, by blocks of n bytes, the last of which may reach into the one before it.
+fn same_by(a: &[u8], b: &[u8], n: usize) -> bool
+    requires { ⌜ (length (now a) ≡ length (now b)) × (n ≤ length (now a)) × (0 < n) ⌝ }
+    ensures { λ r. ⌜ r ≡ same-bytes (now (a .entry)) (now (b .entry)) ⌝ }
+{
+    let to = a.len();
+    let i = blocks_agree(a, b, 0, to, n);
+    if n <= to - i {
+        return false;
+    }
+    if block_differs(a, b, to - n, n) {
+        return false;
+    }
+    true
+}
+
 pub fn same(a: &[u8], b: &[u8]) -> bool
     ensures { λ r. ⌜ r ≡ same-bytes (now (a .entry)) (now (b .entry)) ⌝ }
 {
-    if a.len() != b.len() {
-        return false;
+    if a.len() == b.len() {
+        if 32 <= a.len() {
+            return same_by(a, b, 32);
+        }
+        if 8 <= a.len() {
+            return same_by(a, b, 8);
+        }
+        if 4 <= a.len() {
+            return same_by(a, b, 4);
+        }
+        return common_len(a, b) == a.len();
     }
-    common_len(a, b) == a.len()
+    false
 }
 
 pub fn compare(a: &[u8], b: &[u8]) -> Order

@@ -6,8 +6,8 @@ use super::refusals::NOT_ADDRESSABLE;
 use super::refuse;
 ghost use mathlib.Core.Path.{_≡_};
 ghost use Rattle.format.specs.Read.{operation};
-ghost use Rattle.format.specs.Serialize.{read-uint8, read-uint16, read-uint32, read-short-length-seq};
-ghost use Rattle.wire.specs.Codes.{number-of, span-of, bytes-operation};
+ghost use Rattle.format.specs.Serialize.{read-operation, read-uint8, read-uint16, read-uint32, read-short-length-seq};
+ghost use Rattle.wire.specs.Codes.{number-of, span-of};
 
 pub fn read_u8(m: &[u8], start: u64) -> Number
     ensures { λ r. ⌜ r ≡ number-of (operation read-uint8 (now (m .entry)) start) ⌝ }
@@ -38,7 +38,7 @@ pub fn read_u32(m: &[u8], start: u64) -> Number
 
 // n is at most 4,294,967,295, so that the place behind the bytes does not wrap.
 pub fn read_bytes(m: &[u8], start: u64, n: u32) -> Span
-    ensures { λ r. ⌜ r ≡ span-of (bytes-operation n (now (m .entry)) start) ⌝ }
+    ensures { λ r. ⌜ r ≡ span-of (read-operation n (now (m .entry)) start) ⌝ }
 {
     if reading::is_addressable(m, start) {
         return reading::bytes_at(m, start, n as u64);

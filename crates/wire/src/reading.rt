@@ -9,10 +9,10 @@ ghost use mathlib.Core.Path.{_≡_};
 ghost use Prim.Native.Nat.{_+_, _≤_, _<_, _^_};
 ghost use lib.ListN.{length};
 ghost use Rattle.format.specs.Read.{at, addressable};
-ghost use Rattle.format.specs.Serialize.{read, read-uint8, read-uint16, read-uint32, read-short-length-seq};
+ghost use Rattle.format.specs.Serialize.{read, read-at, read-uint8, read-uint16, read-uint32, read-short-length-seq};
 ghost use Rattle.format.specs.Context.{read-text};
 ghost use Rattle.steps.specs.Places.{number8, number16, number32};
-ghost use Rattle.wire.specs.Codes.{number-of, span-of, Below, bytes-here};
+ghost use Rattle.wire.specs.Codes.{number-of, span-of, Below};
 
 // Refusal 1: both have to be at most 4,294,967,295.
 pub fn is_addressable(m: &[u8], start: u64) -> bool
@@ -92,17 +92,17 @@ pub fn read_u32(m: &[u8], s: u64) -> Number
 // n bytes, by document 01's words: they are there when s + n is at most the message's length, n = 0 included.
 pub fn bytes_at(m: &[u8], s: u64, n: u64) -> Span
     requires { ⌜ s + n < 2 ^ 64 ⌝ }
-    ensures { λ r. ⌜ r ≡ span-of (bytes-here n (now (m .entry)) s) ⌝ }
+    ensures { λ r. ⌜ r ≡ span-of (read-at n (now (m .entry)) s) ⌝ }
 {
     let tail = s + n;
-    if tail <= m.len() as u64 {
-        return Span::At {
-            start: s,
-            len: n,
-            tail,
-        };
+    if (m.len() as u64) < tail {
+        return Span::Not(shortage(tail));
     }
-    Span::Not(shortage(tail))
+    Span::At {
+        start: s,
+        len: n,
+        tail,
+    }
 }
 
 // n bytes behind something that was read.

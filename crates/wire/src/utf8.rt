@@ -8,7 +8,7 @@ ghost use Prim.Native.Nat.{_+_, _≤_, _<_};
 ghost use lib.ListN.{length, getD};
 ghost use Rattle.format.specs.Utf8.{_‥_, has, valid-utf8-seq};
 ghost use Rattle.format.specs.Lent.{bytes-at};
-ghost use Rattle.wire.specs.Scan.{Low, tails, Tails, Scan, Passed, Advanced};
+ghost use Rattle.wire.specs.Scan.{Low, tails, Tails, Scan, Two, Passed, Advanced};
 
 // Whether `high` is, or b is 128 or more.
 fn or_high(high: bool, b: u8) -> bool
@@ -61,13 +61,17 @@ fn bytes_end(m: &[u8], from: usize) -> usize
     i
 }
 
-// Passes a byte below 128 and more of them: in blocks where the 16 bytes from it are such, and then one by one.
+// Passes a byte below 128, which may stand alone, as a space between words, and more of them: in blocks where the 16 bytes from it
+// are such, and then one by one.
 fn ascii_end(m: &[u8], from: usize) -> usize
     requires { ⌜ (from < length (now m)) × (getD (now m) from 0 < 128) ⌝ }
     ensures { λ r. ⌜ Advanced (now (m .entry)) from r ⌝ }
 {
     if m.len() - from < 16 {
         return bytes_end(m, from + 1);
+    }
+    if 128 <= m[from + 1] {
+        return from + 1;
     }
     if block_high(m, from, 16) {
         return bytes_end(m, from + 1);
@@ -119,6 +123,24 @@ fn longer(m: &[u8], i: usize, low: u8, high: u8, n: usize) -> usize
     0
 }
 
+// The length of the character of three bytes that begins at i, or 0.
+fn three_len(m: &[u8], i: usize) -> usize
+    requires { ⌜ (i < length (now m)) × (0xE0 ≤ getD (now m) i 0) × (getD (now m) i 0 < 0xF0) ⌝ }
+    ensures { λ r. ⌜ Scan (now (m .entry)) i [] i r ⌝ }
+{
+    let b = m[i];
+    if b < 0xE1 {
+        return longer(m, i, 0xA0, 0xBF, 1);
+    }
+    if b < 0xED {
+        return longer(m, i, 0x80, 0xBF, 1);
+    }
+    if b < 0xEE {
+        return longer(m, i, 0x80, 0x9F, 1);
+    }
+    longer(m, i, 0x80, 0xBF, 1)
+}
+
 // The length of the character of two bytes or more that begins at i, or 0.
 fn char_len(m: &[u8], i: usize) -> usize
     requires { ⌜ (i < length (now m)) × (0x80 ≤ getD (now m) i 0) ⌝ }
@@ -131,17 +153,8 @@ fn char_len(m: &[u8], i: usize) -> usize
     if b < 0xE0 {
         return longer(m, i, 0x80, 0xBF, 0);
     }
-    if b < 0xE1 {
-        return longer(m, i, 0xA0, 0xBF, 1);
-    }
-    if b < 0xED {
-        return longer(m, i, 0x80, 0xBF, 1);
-    }
-    if b < 0xEE {
-        return longer(m, i, 0x80, 0x9F, 1);
-    }
     if b < 0xF0 {
-        return longer(m, i, 0x80, 0xBF, 1);
+        return three_len(m, i);
     }
     if b < 0xF1 {
         return longer(m, i, 0x90, 0xBF, 2);
@@ -153,6 +166,36 @@ fn char_len(m: &[u8], i: usize) -> usize
         return longer(m, i, 0x80, 0x8F, 2);
     }
     0
+}
+
+// Whether a character of two bytes stands at i.
+fn is_two(m: &[u8], i: usize) -> bool
+    requires { ⌜ i + 2 ≤ length (now m) ⌝ }
+    ensures { λ r. ⌜ Two (now (m .entry)) i r ⌝ }
+{
+    if m[i] < 0xC2 {
+        return false;
+    }
+    if 0xE0 <= m[i] {
+        return false;
+    }
+    in_range(m[i + 1], 0x80, 0xBF)
+}
+
+// Passes characters of two bytes, which come in runs.
+fn twos_end(m: &[u8], from: usize) -> usize
+    requires { ⌜ from ≤ length (now m) ⌝ }
+    ensures { λ r. ⌜ Passed (now (m .entry)) from r ⌝ }
+{
+    let mut i = from;
+    while 2 <= m.len() - i {
+        if is_two(m, i) {
+            i += 2;
+        } else {
+            return i;
+        }
+    }
+    i
 }
 
 // Whether all of m is UTF-8.
@@ -169,6 +212,9 @@ pub fn is_utf8(m: &[u8]) -> bool
                 return false;
             }
             i += n;
+            if n == 2 {
+                i = twos_end(m, i);
+            }
         }
     }
     true

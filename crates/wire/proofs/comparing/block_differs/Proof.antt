@@ -1,5 +1,4 @@
 use Prim.Native.Nat.{_-_, _≤_}
-use lib.ListN.{length}
 use Rattle.wire.proofs.CompareLaws.{alike-none, alike-more, alike-all}
 use Rattle.wire.specs.Order.{Alike}
 use borrow.Author.Needs.{needs}

@@ -1,12 +1,11 @@
-use Prim.Native.Nat.{_-_, _≤_}
-use lib.ListN.{length}
-use Rattle.wire.proofs.CompareLaws.{agree-block}
+use Prim.Native.Nat.{_-_}
+use Rattle.wire.proofs.CompareLaws.{agree-block, halted-end, halted-block}
 use Rattle.wire.specs.Order.{Agree}
 use borrow.Author.Needs.{needs}
 use Rattle.wire.proofs.comparing.blocks_agree.Statement.{statement}
 use Rattle.wire.proofs.comparing.blocks_agree.Tie as tie
 
-ruleset laws = (agree-block, needs)
+ruleset laws = (agree-block, halted-end, halted-block, needs)
 
 abbrev Inv-loop : tie.InvT-loop
 Inv-loop a b from to n i₀ i = Agree a b to i

@@ -1,5 +1,4 @@
-use Prim.Native.Nat.{_-_, _≤_}
-use lib.ListN.{length}
+use Prim.Native.Nat.{_-_}
 use Rattle.wire.proofs.CompareLaws.{agree-byte, stopped-end, stopped-byte}
 use Rattle.wire.specs.Order.{Agree}
 use borrow.Author.Needs.{needs}

@@ -7,4 +7,4 @@ use Rattle.wire.proofs.reading.bytes_at.Tie as tie
 ruleset laws = (not-span, bytes-there, bytes-no, needs)
 
 pub bytes-at-spec : {M : Type 1} → statement M
-bytes-at-spec = tie.close (tie.spec (λ c. search laws) (λ c. search laws) (λ c κs. search laws) (λ c. search laws))
+bytes-at-spec = tie.close (tie.spec (λ c. search laws) (λ c κs. search laws) (λ c. search laws) (λ c. search laws))

@@ -1,7 +1,6 @@
-use Prim.Native.Nat.{ℕ, _+_, _-_, _≤_, _<_}
+use Prim.Native.Nat.{_+_, _-_, _≤_}
 use mathlib.Core.Path.{_≡_}
-use mathlib.Core.Bool.{false}
-use lib.ListN.{length, getD, drop}
+use lib.ListN.{drop}
 use Rattle.wire.proofs.Utf8Laws.{tails-start, tails-more, tails-stop, tails-all}
 use Rattle.format.specs.Utf8.{due, octets}
 use Rattle.wire.specs.Scan.{tails}

@@ -1,5 +1,4 @@
 use Prim.Native.Nat.{_-_, _≤_}
-use lib.ListN.{length}
 use Rattle.wire.proofs.Utf8Laws.{low-none, low-more, low-all}
 use Rattle.wire.specs.Scan.{Low}
 use borrow.Author.Needs.{needs}

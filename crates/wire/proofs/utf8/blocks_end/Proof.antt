@@ -1,4 +1,4 @@
-use Prim.Native.Nat.{_-_, _≤_}
+use Prim.Native.Nat.{_-_}
 use lib.ListN.{length}
 use Rattle.wire.proofs.Utf8Laws.{passed-none, block-more}
 use Rattle.wire.specs.Scan.{Passed}

@@ -1,7 +1,5 @@
-use Prim.Native.Nat.{ℕ, _+_, _-_, _≤_, _<_}
-use mathlib.Core.Path.{_≡_}
-use mathlib.Core.Bool.{false}
-use lib.ListN.{length, getD, drop}
+use Prim.Native.Nat.{_-_}
+use lib.ListN.{length}
 use Rattle.wire.proofs.Utf8Laws.{passed-none, byte-more}
 use Rattle.wire.specs.Scan.{Passed}
 use borrow.Author.Needs.{needs}

@@ -1,0 +1,143 @@
+-- The ways out of the body reader, one law each. Assumes nothing.
+use Prim.Native.Nat.{ℕ, _+_, _*_, _/_, _≤_, _<_}
+use native.Mathlib.Omega.{arith}
+use mir.Syntax.{w64}
+use mir.Val.{Fits}
+use mathlib.Core.Path.{_≡_, refl, sym, ap, _∙_}
+use mathlib.Core.Bool.{Bool, true, false, not, _||_}
+use mathlib.Core.List.{List}
+use lib.Dec.{eqb}
+use lib.ListN.{length}
+use Rattle.format.specs.Read.{Answer, accepted, refused, at, addressable, operation}
+use Rattle.format.specs.Serialize.{images}
+use Rattle.format.specs.Shared.{frame-fits}
+use Rattle.format.specs.Fields.{HeaderBody as BodyRead}
+use Rattle.format.specs.Context.{read-aad-section}
+use Rattle.format.specs.Keys.{read-encrypted-data-keys-section}
+use Rattle.format.specs.Body.{Request, tests-frames, request, whole, read-opening, read-closing, read-body, read-header-body}
+use Rattle.format.specs.Lent.{place, filled, pair-numbers, key-numbers, pair-table-after, key-table-after}
+use Rattle.steps.proofs.Operations.{operation-guarded, operation-reached}
+use Rattle.wire.specs.Codes.{because}
+use Rattle.wire.specs.declared.Refusal.{Refusal}
+use Rattle.entries.specs.Places.{entries-here, entries-end}
+use Rattle.request.specs.Codes.{which-of, mode-of, max-of}
+use Rattle.request.specs.declared.Which.{Which}
+use Rattle.request.specs.declared.Mode.{Mode}
+use Rattle.request.specs.declared.Max.{Max}
+use Rattle.context.proofs.Answers.{Had as PairsHad}
+use Rattle.context.proofs.Whole as pairs
+use Rattle.keys.proofs.Answers.{Had as KeysHad}
+use Rattle.keys.proofs.Whole as keys
+use Rattle.ends.specs.Codes.{closing-of}
+use Rattle.ends.specs.declared.Opening.{Opening}
+use Rattle.ends.specs.declared.Closing.{Closing}
+use Rattle.ends.proofs.OpeningLaws.{OpeningHad, opening-got}
+use Rattle.ends.proofs.ClosingLaws.{ClosingHad, closing-got}
+use Rattle.body_reader.specs.Codes.{body-of, ReadsBody, body-with, frame-test, why-measure, Stages, Measured}
+use Rattle.body_reader.specs.declared.HeaderBodyAnswer.{HeaderBodyAnswer}
+use Rattle.body_reader.specs.declared.HeaderBodyAnswer.the-variants as body
+use Rattle.body_reader.specs.declared.MeasureAnswer.{MeasureAnswer}
+use Rattle.body_reader.specs.declared.MeasureAnswer.the-variants as measure
+use Rattle.body_reader.proofs.Stages.{at-22, at-23, at-whole}
+use Rattle.body_reader.proofs.MeasureLaws.{opening-near, context-near}
+
+-- a refusal leaves both tables
+refuses : (o : Answer BodyRead) (k p : ℕ) (pt kt : List ℕ) (r : HeaderBodyAnswer) → o ≡ refused k p → r ≡ body.Refused (because k p) → ReadsBody o pt pt kt kt r
+refuses o k p pt kt r e f = record { answer = f ∙ sym (rw e); pairTable = sym (rw e); keyTable = sym (rw e) }
+
+same-body : (o o′ : Opening) (np np′ nk nk′ : ℕ) (c c′ : Closing) (t : ℕ) → o ≡ o′ → np ≡ np′ → nk ≡ nk′ → c ≡ c′
+    → body.Accepted (body-with o np nk c) t ≡ body.Accepted (body-with o′ np′ nk′ c′) t
+same-body o o′ np np′ nk nk′ c c′ t p q r s = rw (p, q, r, s)
+
+-- the guard
+module _ (which : Which) (mode : Mode) (max : Max) (m : List ℕ) (start : ℕ) (pt kt : List ℕ) (b : Bool) (is : b ≡ addressable m start) (r : HeaderBodyAnswer) where
+  pub body-1 : b ≡ false → r ≡ body.Refused (because 1 0) → ReadsBody (operation (read-header-body (which-of which) (mode-of mode) (max-of max) (length pt) (length kt)) m start) pt pt kt kt r
+  body-1 e f = refuses _ 1 0 pt kt r (operation-guarded (read-header-body (which-of which) (mode-of mode) (max-of max) (length pt) (length kt)) m start (sym is ∙ e)) f
+
+  pub body-here : b ≡ true → (pt′ kt′ : List ℕ) → ReadsBody (at (read-header-body (which-of which) (mode-of mode) (max-of max) (length pt) (length kt)) m start) pt pt′ kt kt′ r
+      → ReadsBody (operation (read-header-body (which-of which) (mode-of mode) (max-of max) (length pt) (length kt)) m start) pt pt′ kt kt′ r
+  body-here e pt′ kt′ f = rw (operation-reached (read-header-body (which-of which) (mode-of mode) (max-of max) (length pt) (length kt)) m start (sym is ∙ e)) f
+
+-- what was measured
+module _ (which : Which) (mode : Mode) (max : Max) (m : List ℕ) (start : ℕ) (a : MeasureAnswer) (a-is : Measured which mode max m start a) where
+  pub body-not : (pt kt : List ℕ) (q : Refusal) → a ≡ measure.Not q → (w : Refusal) → w ≡ why-measure a
+      → ReadsBody (at (read-header-body (which-of which) (mode-of mode) (max-of max) (length pt) (length kt)) m start) pt pt kt kt (body.Refused w)
+  body-not pt kt q b w f = refuses _ (q .number) (q .position) pt kt (body.Refused w) (a-is .refuses q b (length pt) (length kt)) (ap body.Refused (f ∙ ap why-measure b))
+
+  module _ (o : Opening) (first np second nk : ℕ) (c : Closing) (tail : ℕ) (a-got : a ≡ measure.Is o first np second nk c tail) where
+    stages : Stages which mode max m start o first np second nk c tail
+    stages = a-is .accepts o first np second nk c tail a-got
+
+    -- where the pairs and the keys stand
+    pub first-fits : length m < 4294967296 → Fits w64 (first + 4)
+    first-fits h = let y = opening-near m h which start _ refl o first (stages .opens) in omega arith
+
+    pub second-fits : length m < 4294967296 → Fits w64 (second + 2)
+    second-fits h = let y = context-near m h mode first _ refl np second (stages .pairs) in omega arith
+
+    pub pairs-stand : 0 < 2 * np → entries-end m (2 * np) (first + 4) ≤ length m
+    pairs-stand = pairs.section-entries mode m first _ refl np second (stages .pairs)
+
+    pub keys-stand : 0 < 3 * nk → entries-end m (3 * nk) (second + 2) ≤ length m
+    keys-stand = keys.section-entries max m second _ refl nk (stages .third) (stages .keys)
+
+    -- what the definition reads there
+    opened : OpeningHad (at (read-opening (which-of which)) m start) o first
+    opened = opening-got (at (read-opening (which-of which)) m start) _ refl o first (stages .opens)
+
+    paired : PairsHad (at (read-aad-section (mode-of mode)) m first) np second
+    paired = pairs.had mode m first _ refl np second (stages .pairs)
+
+    keyed : KeysHad (at (read-encrypted-data-keys-section (max-of max)) m second) nk (stages .third)
+    keyed = keys.had max m second _ refl nk (stages .third) (stages .keys)
+
+    pairs-are : images place (entries-here m (2 * np) (first + 4)) ≡ pair-numbers (paired .items)
+    unfolding paired
+    pairs-are = pairs.section-numbers mode m first _ refl np second (stages .pairs)
+
+    keys-are : images place (entries-here m (3 * nk) (second + 2)) ≡ key-numbers (keyed .items)
+    unfolding keyed
+    keys-are = keys.section-numbers max m second _ refl nk (stages .third) (stages .keys)
+
+    closed : ClosingHad (at (read-closing (eqb (opened .item .version) 1)) m (stages .third)) c tail
+    closed =
+        closing-got (at (read-closing (eqb (opened .item .version) 1)) m (stages .third)) _ refl c tail
+        (ap (λ (x : Opening). closing-of (at (read-closing (eqb (x .version) 1)) m (stages .third))) (opened .coded) ∙ stages .closes)
+
+    tested : not (tests-frames (which-of which)) || frame-fits (closed .item .contentType) (closed .item .frameLength) ≡ true
+    tested = ap (λ (x : Closing). frame-test which (x .contentType) (x .frameLength)) (closed .coded) ∙ stages .fits
+
+    module _ (pt kt : List ℕ) (r : HeaderBodyAnswer) where
+      abbrev asks : Request
+      asks = request (which-of which) (mode-of mode) (tests-frames (which-of which)) (max-of max) (length pt) (length kt)
+
+      pub body-22 : length pt / 4 < np → r ≡ body.Refused (because 22 0)
+          → ReadsBody (at (read-header-body (which-of which) (mode-of mode) (max-of max) (length pt) (length kt)) m start) pt pt kt kt r
+      unfolding read-header-body
+      body-22 l f =
+          refuses _ 22 0 pt kt r
+          (at-22 asks m start (opened .item) first (opened .is) (paired .items) second (paired .is) (keyed .items) _ (keyed .is) (closed .item) tail (closed .is) tested (omega (arith, paired .long)))
+          f
+
+      module _ (l : np ≤ length pt / 4) where
+        pub body-23 : length kt / 6 < nk → r ≡ body.Refused (because 23 0)
+            → ReadsBody (at (read-header-body (which-of which) (mode-of mode) (max-of max) (length pt) (length kt)) m start) pt pt kt kt r
+        unfolding read-header-body
+        body-23 j f =
+            refuses _ 23 0 pt kt r
+            (at-23 asks m start (opened .item) first (opened .is) (paired .items) second (paired .is) (keyed .items) _ (keyed .is) (closed .item) tail (closed .is) tested (omega (arith, paired .long)) (omega (arith, keyed .long)))
+            f
+
+        pub body-whole : nk ≤ length kt / 6 → (pt′ kt′ : List ℕ) → pt′ ≡ filled (images place (entries-here m (2 * np) (first + 4))) pt
+            → kt′ ≡ filled (images place (entries-here m (3 * nk) (second + 2))) kt → r ≡ body.Accepted (body-with o np nk c) tail
+            → ReadsBody (at (read-header-body (which-of which) (mode-of mode) (max-of max) (length pt) (length kt)) m start) pt pt′ kt kt′ r
+        unfolding read-header-body
+        body-whole j pt′ kt′ p k f =
+            let e =
+            at-whole asks m start (opened .item) first (opened .is) (paired .items) second (paired .is) (keyed .items) _ (keyed .is) (closed .item) tail (closed .is) tested (omega (arith, paired .long)) (omega (arith, keyed .long))
+            in
+            record {
+              answer = f ∙ same-body _ _ _ _ _ _ _ _ tail (sym (opened .coded)) (sym (paired .long)) (sym (keyed .long)) (sym (closed .coded)) ∙ sym (ap body-of e);
+              pairTable = p ∙ ap (λ (l : List ℕ). filled l pt) pairs-are ∙ sym (ap (λ (x : Answer BodyRead). pair-table-after x pt) e);
+              keyTable = k ∙ ap (λ (l : List ℕ). filled l kt) keys-are ∙ sym (ap (λ (x : Answer BodyRead). key-table-after x kt) e);
+            }

@@ -1,0 +1,5 @@
+pub mod Frames
+pub mod Stages
+pub mod MeasureLaws
+pub mod BodyLaws
+pub mod Promises

@@ -1,0 +1,68 @@
+-- A body, stage by stage, and the places where its stages begin. Assumes nothing.
+use Prim.Native.Nat.{ℕ, _*_, _≤_, _<_}
+use mathlib.Core.Path.{_≡_, _∙_}
+use mathlib.Core.Bool.{true, false, not, _||_}
+use mathlib.Core.List.{List}
+use borrow.Author.Tests.{le-leb, lt-leb}
+use lib.Dec.{eqb}
+use lib.ListN.{length}
+use Rattle.format.specs.Read.{accepted, refused, at}
+use Rattle.format.specs.Shared.{frame-fits}
+use Rattle.format.specs.Fields.{PairAt, EncryptedDataKeyAt}
+use Rattle.format.specs.Context.{read-aad-section}
+use Rattle.format.specs.Keys.{read-encrypted-data-keys-section}
+use Rattle.format.specs.Body.{Request, Opening, Closing, whole, read-opening, read-closing, after-context, after-opening, read-body}
+use Rattle.steps.proofs.Steps.{go, stop, pass, fail, gives}
+use Rattle.context.proofs.Known.{section-tidy as context-tidy}
+use Rattle.keys.proofs.Known.{section-tidy as keys-tidy}
+use Rattle.ends.proofs.Tidy.{opening-tidy, closing-tidy}
+
+module _ (q : Request) (m : List ℕ) (s : ℕ) where
+  pub at-opening : (k p : ℕ) → at (read-opening (q .which)) m s ≡ refused k p → at (read-body q) m s ≡ refused k p
+  unfolding read-body
+  at-opening k p e = stop _ (opening-tidy (q .which)) m s k p e
+
+  module _ (o : Opening) (first : ℕ) (opened : at (read-opening (q .which)) m s ≡ accepted o first) where
+    pub at-context : (k p : ℕ) → at (read-aad-section (q .mode)) m first ≡ refused k p → at (read-body q) m s ≡ refused k p
+    unfolding read-body after-opening
+    at-context k p e = go _ (opening-tidy (q .which)) m s o first opened ∙ stop _ (context-tidy (q .mode)) m first k p e
+
+    module _ (ps : List PairAt) (second : ℕ) (paired : at (read-aad-section (q .mode)) m first ≡ accepted ps second) where
+      behind-context : at (read-body q) m s ≡ at (after-context q o ps) m second
+      unfolding read-body after-opening
+      behind-context = go _ (opening-tidy (q .which)) m s o first opened ∙ go _ (context-tidy (q .mode)) m first ps second paired
+
+      pub at-keys : (k p : ℕ) → at (read-encrypted-data-keys-section (q .max)) m second ≡ refused k p → at (read-body q) m s ≡ refused k p
+      unfolding after-context
+      at-keys k p e = behind-context ∙ stop _ (keys-tidy (q .max)) m second k p e
+
+      module _ (ks : List EncryptedDataKeyAt) (third : ℕ) (keyed : at (read-encrypted-data-keys-section (q .max)) m second ≡ accepted ks third) where
+        pub at-closing : (k p : ℕ) → at (read-closing (eqb (o .version) 1)) m third ≡ refused k p → at (read-body q) m s ≡ refused k p
+        unfolding after-context
+        at-closing k p e = behind-context ∙ go _ (keys-tidy (q .max)) m second ks third keyed ∙ stop _ (closing-tidy (eqb (o .version) 1)) m third k p e
+
+        module _ (c : Closing) (t : ℕ) (closed : at (read-closing (eqb (o .version) 1)) m third ≡ accepted c t) where
+          pub at-20 : not (q .frames) || frame-fits (c .contentType) (c .frameLength) ≡ false → at (read-body q) m s ≡ refused 20 0
+          unfolding after-context
+          at-20 e =
+              behind-context ∙ go _ (keys-tidy (q .max)) m second ks third keyed ∙ go _ (closing-tidy (eqb (o .version) 1)) m third c t closed ∙ fail 20 _ _ m t e
+
+          module _ (framed : not (q .frames) || frame-fits (c .contentType) (c .frameLength) ≡ true) where
+            pub at-22 : q .pairRoom < 4 * length ps → at (read-body q) m s ≡ refused 22 0
+            unfolding after-context
+            at-22 h =
+                behind-context ∙ go _ (keys-tidy (q .max)) m second ks third keyed ∙ go _ (closing-tidy (eqb (o .version) 1)) m third c t closed ∙ pass 20 _ _ m t framed
+                ∙ fail 22 _ _ m t (lt-leb _ _ h)
+
+            module _ (held : 4 * length ps ≤ q .pairRoom) where
+              pub at-23 : q .keyRoom < 6 * length ks → at (read-body q) m s ≡ refused 23 0
+              unfolding after-context
+              at-23 h =
+                  behind-context ∙ go _ (keys-tidy (q .max)) m second ks third keyed ∙ go _ (closing-tidy (eqb (o .version) 1)) m third c t closed ∙ pass 20 _ _ m t framed
+                  ∙ pass 22 _ _ m t (le-leb _ _ held) ∙ fail 23 _ _ m t (lt-leb _ _ h)
+
+              pub at-whole : 6 * length ks ≤ q .keyRoom → at (read-body q) m s ≡ accepted (whole o ps ks c) t
+              unfolding after-context
+              at-whole h =
+                  behind-context ∙ go _ (keys-tidy (q .max)) m second ks third keyed ∙ go _ (closing-tidy (eqb (o .version) 1)) m third c t closed ∙ pass 20 _ _ m t framed
+                  ∙ pass 22 _ _ m t (le-leb _ _ held) ∙ pass 23 _ _ m t (le-leb _ _ h) ∙ gives _ m t

@@ -1,0 +1,86 @@
+-- Laws of the checks of a body: its stages, the ways out, and what checks that all pass leave known. Assumes nothing.
+use Prim.Native.Nat.{ℕ, _+_, _≤_, _<_}
+use native.Mathlib.Omega.{arith}
+use mathlib.Core.Path.{_≡_, refl, sym, ap, _∙_}
+use mathlib.Core.Option.{none}
+use mathlib.Core.List.{List, [], _∷_, _++_}
+use lib.ListN.{length}
+use borrow.Author.Tests.{eqb-true}
+use Rattle.format.specs.Shared.{by}
+use Rattle.format.specs.Checks.{Check, first, opening-checks, closing-checks, body-checks}
+use Rattle.format.specs.Lent.{fields-to-write, writing-aad-section, writing-encrypted-data-keys-section, writing-header-body}
+use Rattle.format.proofs.Firsts.{holds}
+use Rattle.wire.specs.declared.Refusal.{Refusal}
+use Rattle.checks.specs.Answers.{checked}
+use Rattle.checks.specs.Table.{Passed, entries-size}
+use Rattle.checks.specs.declared.Checked.{Checked}
+use Rattle.checks.specs.declared.Checked.the-variants.{Passes, Fails}
+use Rattle.checks.proofs.Stages.{stage-passes, stage-fails, front, back}
+use Rattle.checks.proofs.SectionChecks.{pairs-passed, pairs-few, keys-passed}
+use Rattle.body_write.specs.Lent.{body-to-write}
+use Rattle.body_write.specs.Ready.{Small}
+use Rattle.body_write.specs.declared.Numbers.{Numbers}
+
+module _ (n : Numbers) (messageId suiteData text pairs keys : List ℕ) where
+  abbrev opens : List Check
+  opens = opening-checks (n .version) (n .messageType) (n .suite) (length messageId)
+
+  abbrev closes : List Check
+  closes = closing-checks (n .version) (n .contentType) (n .headerIvLength) (length suiteData) (n .frameLength)
+
+  abbrev of-pairs : List Check
+  of-pairs = writing-aad-section text pairs .checks
+
+  abbrev of-keys : List Check
+  of-keys = writing-encrypted-data-keys-section text keys .checks
+
+  stages : writing-header-body (body-to-write n messageId suiteData text pairs keys) .checks ≡ opens ++ (of-pairs ++ (of-keys ++ closes))
+  unfolding body-to-write writing-header-body fields-to-write body-checks writing-aad-section writing-encrypted-data-keys-section
+  stages = refl
+
+  -- the ways out
+  module _ (a : Checked) (aIs : a ≡ checked (first (opening-checks (n .version) (n .messageType) (n .suite) (length messageId)))) where
+    pub body-opening : (r : Refusal) → a ≡ Fails r → Fails r ≡ checked (first (writing-header-body (body-to-write n messageId suiteData text pairs keys) .checks))
+    body-opening r e = rw stages (sym (stage-fails opens a aIs _ r e))
+
+    module _ (aPasses : a ≡ Passes) (b : Checked) (bIs : b ≡ checked (first (writing-aad-section text pairs .checks))) where
+      pub body-pairs : (r : Refusal) → b ≡ Fails r → Fails r ≡ checked (first (writing-header-body (body-to-write n messageId suiteData text pairs keys) .checks))
+      body-pairs r e = rw stages (sym (stage-passes opens a aIs _ aPasses ∙ stage-fails of-pairs b bIs _ r e))
+
+      module _ (bPasses : b ≡ Passes) (c : Checked) (cIs : c ≡ checked (first (writing-encrypted-data-keys-section text keys .checks))) where
+        pub body-keys : (r : Refusal) → c ≡ Fails r → Fails r ≡ checked (first (writing-header-body (body-to-write n messageId suiteData text pairs keys) .checks))
+        body-keys r e = rw stages (sym (stage-passes opens a aIs _ aPasses ∙ stage-passes of-pairs b bIs _ bPasses ∙ stage-fails of-keys c cIs _ r e))
+
+        pub body-closing : c ≡ Passes → (d : Checked) → d ≡ checked (first (closing-checks (n .version) (n .contentType) (n .headerIvLength) (length suiteData) (n .frameLength)))
+            → d ≡ checked (first (writing-header-body (body-to-write n messageId suiteData text pairs keys) .checks))
+        body-closing cPasses d dIs =
+            rw stages (dIs ∙ sym (stage-passes opens a aIs _ aPasses ∙ stage-passes of-pairs b bIs _ bPasses ∙ stage-passes of-keys c cIs _ cPasses))
+
+  -- where all pass
+  module _ (all-pass : first (writing-header-body (body-to-write n messageId suiteData text pairs keys) .checks) ≡ none) where
+    opened : first opens ≡ none
+    opened = front opens _ (rw stages at all-pass)
+
+    behind : first (of-pairs ++ (of-keys ++ closes)) ≡ none
+    behind = back opens _ (rw stages at all-pass)
+
+    pub body-pairs-passed : Passed 4 text pairs
+    body-pairs-passed = pairs-passed text pairs (front of-pairs _ behind)
+
+    pub body-pairs-few : entries-size pairs < 65534
+    body-pairs-few = pairs-few text pairs (front of-pairs _ behind)
+
+    pub body-keys-passed : Passed 6 text keys
+    body-keys-passed = keys-passed text keys (front of-keys _ (back of-pairs _ behind))
+
+    pub id-long : length messageId ≡ by (n .version) 16 32
+    id-long = eqb-true _ _ (holds opens opened .1 .1 .1 .1 .0)
+
+    pub data-long : length suiteData ≡ by (n .version) 0 32
+    data-long = eqb-true _ _ (holds closes (back of-keys _ (back of-pairs _ behind)) .1 .1 .0)
+
+    pub tables-small : Small pairs keys
+    tables-small =
+        let p = body-pairs-passed in
+        let k = body-keys-passed in
+        record { pairs = omega (arith, p .whole, p .count); keys = omega (arith, k .whole, k .count) }

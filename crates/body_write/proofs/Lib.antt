@@ -1,0 +1,5 @@
+pub mod VersionLaws
+pub mod Ends
+pub mod BodyChecks
+pub mod SectionStores
+pub mod BodyStores

@@ -1,0 +1,137 @@
+// Writes a header body. Everything is tested before anything is stored, so that a refusal leaves the output as it was.
+pub mod closing;
+pub mod opening;
+pub mod versions;
+
+use checks::Checked;
+use checks::WriteAnswer;
+use checks::keys::check_keys;
+use checks::pairs::check_pairs;
+use checks::refuses;
+use section_write::aad_section_size;
+use section_write::keys_section_size;
+use section_write::put_aad_section;
+use section_write::put_keys_section;
+use wire::refusals::OUTPUT_TOO_SHORT;
+ghost use mathlib.Core.Path.{_≡_};
+ghost use mathlib.Core.List.{_++_};
+ghost use Prim.Native.Nat.{_+_};
+ghost use lib.ListN.{length};
+ghost use Rattle.format.specs.Checks.{first};
+ghost use Rattle.format.specs.Lent.{writing-aad-section, writing-encrypted-data-keys-section, writing-header-body};
+ghost use Rattle.wire.specs.Stored.{stored};
+ghost use Rattle.checks.specs.Answers.{checked, Writes};
+ghost use Rattle.body_write.specs.Lent.{body-to-write};
+ghost use Rattle.body_write.specs.Ready.{body-size, Small, SectionsReady, BodyReady};
+
+// The numbers among a body's fields, each as wide as it is stored: so no frame length is above 32 bits, and no refusal has to
+// speak of one.
+pub struct Numbers {
+    pub version: u8,
+    pub messageType: u8,
+    pub suite: u16,
+    pub contentType: u8,
+    pub headerIvLength: u8,
+    pub frameLength: u32,
+}
+
+// All but 28, in document 01's order.
+fn check_body(
+    n: Numbers,
+    messageId: &[u8],
+    suiteData: &[u8],
+    text: &[u8],
+    pairs: &[u32],
+    keys: &[u32],
+) -> Checked
+    ensures { λ r. ⌜ r ≡ checked (first (writing-header-body (body-to-write n (now (messageId .entry)) (now (suiteData .entry)) (now (text .entry)) (now (pairs .entry)) (now (keys .entry))) .checks)) ⌝ }
+{
+    let a = opening::check_opening(n.version, n.messageType, n.suite, messageId.len());
+    if let Checked::Fails(r) = a {
+        return Checked::Fails(r);
+    }
+    let b = check_pairs(text, pairs);
+    if let Checked::Fails(r) = b {
+        return Checked::Fails(r);
+    }
+    let c = check_keys(text, keys);
+    if let Checked::Fails(r) = c {
+        return Checked::Fails(r);
+    }
+    closing::check_closing(
+        n.version,
+        n.contentType,
+        n.headerIvLength,
+        suiteData.len(),
+        n.frameLength,
+    )
+}
+
+fn body_size(version: u8, pairs: &[u32], keys: &[u32]) -> usize
+    requires { ⌜ Small (now pairs) (now keys) ⌝ }
+    ensures { λ r. ⌜ r ≡ body-size version (now (pairs .entry)) (now (keys .entry)) ⌝ }
+{
+    opening::opening_size(version)
+        + (aad_section_size(pairs) + (keys_section_size(keys) + closing::closing_size(version)))
+}
+
+// Writes both sections; each writer is lent the part of the output that begins at its section.
+fn put_sections(text: &[u8], pairs: &[u32], keys: &[u32], out: &mut [u8], at: usize)
+    requires { ⌜ SectionsReady (now text) (now pairs) (now keys) at (length (now out)) ⌝ }
+    ensures { λ _. ⌜ now (out .exit) ≡ stored (now (out .entry)) at (writing-aad-section (now (text .entry)) (now (pairs .entry)) .image ++ writing-encrypted-data-keys-section (now (text .entry)) (now (keys .entry)) .image) ⌝ }
+{
+    let size = aad_section_size(pairs);
+    put_aad_section(text, pairs, &mut out[at..]);
+    let next = at + size;
+    put_keys_section(text, keys, &mut out[next..]);
+}
+
+fn put_body(
+    n: Numbers,
+    messageId: &[u8],
+    suiteData: &[u8],
+    text: &[u8],
+    pairs: &[u32],
+    keys: &[u32],
+    out: &mut [u8],
+)
+    requires { ⌜ BodyReady n (now messageId) (now suiteData) (now text) (now pairs) (now keys) (length (now out)) ⌝ }
+    ensures { λ _. ⌜ now (out .exit) ≡ stored (now (out .entry)) 0 (writing-header-body (body-to-write n (now (messageId .entry)) (now (suiteData .entry)) (now (text .entry)) (now (pairs .entry)) (now (keys .entry))) .image) ⌝ }
+{
+    opening::put_opening(n.version, n.messageType, n.suite, messageId, out);
+    let at = opening::opening_size(n.version);
+    put_sections(text, pairs, keys, out, at);
+    let end = at + (aad_section_size(pairs) + keys_section_size(keys));
+    closing::put_closing(
+        n.version,
+        n.contentType,
+        n.headerIvLength,
+        n.frameLength,
+        suiteData,
+        &mut out[end..],
+    );
+}
+
+// Write a body: 3; 5; 6; 7; 24; the pairs' and the keys'; 17; 19; 25; 20; 28.
+pub fn write_header_body(
+    numbers: Numbers,
+    messageId: &[u8],
+    suiteData: &[u8],
+    text: &[u8],
+    pairs: &[u32],
+    keys: &[u32],
+    out: &mut [u8],
+) -> WriteAnswer
+    ensures { λ r. ⌜ Writes (writing-header-body (body-to-write numbers (now (messageId .entry)) (now (suiteData .entry)) (now (text .entry)) (now (pairs .entry)) (now (keys .entry)))) (now (out .entry)) (now (out .exit)) r ⌝ }
+{
+    let c = check_body(numbers, messageId, suiteData, text, pairs, keys);
+    if let Checked::Fails(r) = c {
+        return WriteAnswer::Refused(r);
+    }
+    let size = body_size(numbers.version, pairs, keys);
+    if out.len() < size {
+        return refuses(OUTPUT_TOO_SHORT);
+    }
+    put_body(numbers, messageId, suiteData, text, pairs, keys, out);
+    WriteAnswer::Written(size)
+}

@@ -1,0 +1,87 @@
+// What stands before the context section.
+use super::versions::is_by;
+use super::versions::is_one_or_two;
+use checks::Checked;
+use checks::fails;
+use suites::suite_version;
+use wire::refusals::ID_LENGTH;
+use wire::refusals::MESSAGE_TYPE;
+use wire::refusals::SUITE_OF_OTHER_VERSION;
+use wire::refusals::UNKNOWN_SUITE;
+use wire::refusals::VERSION;
+use wire::writing::put_bytes;
+use wire::writing::put_u8;
+use wire::writing::put_u16;
+ghost use mathlib.Core.Path.{_≡_};
+ghost use mathlib.Core.Bool.{true, false};
+ghost use Prim.Native.Nat.{_+_, _≤_, _<_};
+ghost use lib.Dec.{eqb};
+ghost use lib.ListN.{length};
+ghost use Rattle.format.specs.Shared.{by};
+ghost use Rattle.format.specs.Checks.{first, opening-checks};
+ghost use Rattle.wire.specs.Stored.{stored};
+ghost use Rattle.checks.specs.Answers.{checked};
+ghost use Rattle.body_write.specs.Lent.{write-opening};
+
+// 3; 5; 6; 7; 24, by the ID's length.
+pub fn check_opening(version: u8, kind: u8, suite: u16, id: usize) -> Checked
+    ensures { λ r. ⌜ r ≡ checked (first (opening-checks version kind suite id)) ⌝ }
+{
+    if !is_one_or_two(version) {
+        return fails(VERSION);
+    }
+    if !is_by(version, kind as usize, 0x80, 0) {
+        return fails(MESSAGE_TYPE);
+    }
+    let s = suite_version(suite);
+    if s == 0 {
+        return fails(UNKNOWN_SUITE);
+    }
+    if s != version {
+        return fails(SUITE_OF_OTHER_VERSION);
+    }
+    if !is_by(version, id, 16, 32) {
+        return fails(ID_LENGTH);
+    }
+    Checked::Passes
+}
+
+// How many bytes it takes: the place of the context section.
+pub fn opening_size(version: u8) -> usize
+    ensures { λ r. ⌜ (r ≡ by version 20 35) × (r < 64) ⌝ }
+{
+    if version == 1 {
+        return 20;
+    }
+    35
+}
+
+fn put_opening_v1(version: u8, kind: u8, suite: u16, id: &[u8], out: &mut [u8])
+    requires { ⌜ 4 + length (now id) ≤ length (now out) ⌝ }
+    ensures { λ _. ⌜ now (out .exit) ≡ stored (now (out .entry)) 0 (write-opening true version kind suite (now (id .entry))) ⌝ }
+{
+    put_u8(out, 0, version);
+    put_u8(out, 1, kind);
+    put_u16(out, 2, suite);
+    put_bytes(id, 0, id.len(), out, 4);
+}
+
+fn put_opening_v2(version: u8, suite: u16, id: &[u8], out: &mut [u8])
+    requires { ⌜ 3 + length (now id) ≤ length (now out) ⌝ }
+    ensures { λ _. ⌜ now (out .exit) ≡ stored (now (out .entry)) 0 (write-opening false version 0 suite (now (id .entry))) ⌝ }
+{
+    put_u8(out, 0, version);
+    put_u16(out, 1, suite);
+    put_bytes(id, 0, id.len(), out, 3);
+}
+
+pub fn put_opening(version: u8, kind: u8, suite: u16, id: &[u8], out: &mut [u8])
+    requires { ⌜ 4 + length (now id) ≤ length (now out) ⌝ }
+    ensures { λ _. ⌜ now (out .exit) ≡ stored (now (out .entry)) 0 (write-opening (eqb version 1) version kind suite (now (id .entry))) ⌝ }
+{
+    if version == 1 {
+        put_opening_v1(version, kind, suite, id, out);
+        return;
+    }
+    put_opening_v2(version, suite, id, out);
+}

@@ -1,0 +1,8 @@
+pub mod Stages
+pub mod Items
+pub mod Loops
+pub mod Parts
+pub mod SectionChecks
+pub mod Writers
+pub mod Suites
+pub mod SeenLaws

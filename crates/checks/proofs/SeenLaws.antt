@@ -1,0 +1,102 @@
+-- Laws of the search for a key in the index. Assumes nothing.
+use Prim.Native.Nat.{ℕ, suc, _+_, _*_, _≤_, _<_}
+use native.Mathlib.Nat.{zero-add}
+use native.Mathlib.Numerals.{add-one}
+use native.Mathlib.Omega.{arith}
+use mathlib.Core.Path.{_≡_, refl, sym, ap, subst, _∙_}
+use mathlib.Core.Bool.{Bool, true, false, not}
+use mathlib.Core.List.{List, [], _∷_, _++_}
+use lib.ListN.{length, getD}
+use Rattle.format.specs.Checks.{first, each, pair-checks}
+use Rattle.format.specs.Lent.{items, part-in, pair-in, bytes-at}
+use Rattle.wire.specs.Order.{compare-bytes}
+use Rattle.wire.specs.declared.Refusal.{Refusal}
+use Rattle.wire.specs.declared.Order.{Order}
+use Rattle.index.specs.Index.{Index, Between, Sought, Shifted}
+use Rattle.index.specs.declared.Spot.{Spot}
+use Rattle.index.specs.declared.Spot.the-variants.{Found, At}
+use Rattle.index.proofs.Bracket.{Bracket, mid-room, mid-good}
+use Rattle.index.proofs.Grown.{index-start, index-more, between-unseen, sought-seen, sought-between}
+use Rattle.checks.specs.Table.{Within}
+use Rattle.checks.specs.Answers.{checked}
+use Rattle.checks.specs.Seen.{key-of, KeyThere, Indexed, IndexedWhere, New, IndexedAfter, PairChecked}
+use Rattle.checks.specs.declared.Checked.{Checked}
+use Rattle.checks.specs.declared.Checked.the-variants.{Passes, Fails}
+use Rattle.checks.proofs.Items.{items-snoc}
+use Rattle.checks.proofs.Loops.{Each, each-start, each-more, each-bad, each-end}
+
+-- the place of a key by its number in the index
+module _ (text table : List ℕ) (x w : ℕ) (is : w ≡ x) where
+  pub probe-numbers : Within text table (4 * x) → 4 * w + 2 ≤ length table
+  probe-numbers h = omega (arith, h .numbers)
+
+  module _ (s l : ℕ) (es : s ≡ getD table (4 * w) 0) (el : l ≡ getD table (4 * w + 1) 0) where
+    pub probe-inside : Within text table (4 * x) → s + l ≤ length text
+    probe-inside h = let e : 4 * w ≡ 4 * x = omega arith in rw (es, el, e) (h .bytes)
+
+    pub probe-is : (at₂ s₂ l₂ : ℕ) → s₂ ≡ getD table at₂ 0 → l₂ ≡ getD table (at₂ + 1) 0 → (o : Order) → o ≡ compare-bytes (bytes-at text s l) (bytes-at text s₂ l₂)
+        → o ≡ compare-bytes (key-of text table x) (part-in text table at₂)
+    unfolding key-of part-in
+    probe-is at₂ s₂ l₂ es₂ el₂ o e = e ∙ rw (es, el, es₂, el₂, is)
+
+-- the place that is looked at next
+module _ (text table : List ℕ) (n : ℕ) (s k : List ℕ) (lo hi mid : ℕ) (b : Bracket (key-of text table) n s k lo hi mid) (t : lo < hi) (ix : Indexed text table n s) where
+  pub probe-there : Within text table (4 * getD s mid 0)
+  probe-there = mid-good (key-of text table) (KeyThere text table) _ n s k lo hi mid b (ix .index) t .there
+
+  pub probe-room : n ≤ length s → mid < length s
+  probe-room h = mid-room (key-of text table) (KeyThere text table) _ n s k lo hi mid b (ix .index) t h
+
+pub indexed-none : (text table s : List ℕ) → Indexed text table 0 s
+unfolding items
+indexed-none text table s = record { index = index-start (key-of text table) (KeyThere text table) s }
+
+module _ (text table : List ℕ) (i at : ℕ) (s : List ℕ) (ix : Indexed text table i s) (is : at ≡ 4 * i) (w : Spot)
+    (h : Sought (key-of text table) (items (pair-in text table) 4 i 0) i s (part-in text table at) w) where
+  pub new-not : w ≡ Found → (t : List ℕ) → New text table i at t false
+  new-not e t = record { is = rw (sought-seen _ _ _ _ _ w h e); after = tt }
+
+  pub new-yes : (p : ℕ) → w ≡ At p → Within text table at → (t : List ℕ) → Shifted s t p i i → New text table i at t true
+  unfolding key-of
+  new-yes p e there t sh =
+      let b = sought-between _ _ _ _ _ w h p e in
+      let q = pair-in text table at in
+      let same-key : key-of text table i ≡ q .key = rw is in
+      let more : items (pair-in text table) 4 (i + 1) 0 ≡ items (pair-in text table) 4 i 0 ++ (q ∷ []) = rw (add-one, items-snoc (pair-in text table) 4 i 0, zero-add, ← is) in
+      let grown = index-more (key-of text table) (KeyThere text table) (items (pair-in text table) 4 i 0) i s (ix .index) q i p same-key b t sh (record { there = rw is at there }) in
+      record {
+        is = rw (between-unseen (key-of text table) (KeyThere text table) (items (pair-in text table) 4 i 0) i s (ix .index) (part-in text table at) p b);
+        after = record { index = rw (more, add-one) grown };
+      }
+
+-- what the checks of a pair leave of the index
+pub after-fails : (text table : List ℕ) (n : ℕ) (s : List ℕ) (r : Checked) (q : Refusal) → r ≡ Fails q → IndexedAfter r text table n s
+after-fails text table n s r q e = subst (λ (c : Checked). IndexedAfter c text table n s) (sym e) tt
+
+pub after-passes : (text table : List ℕ) (i at : ℕ) (s : List ℕ) (t : Bool) → New text table i at s t → t ≡ true → Indexed text table (i + 1) s
+after-passes text table i at s t h e = subst (λ (b : Bool). IndexedWhere b text table (i + 1) s) e (h .after)
+
+-- the loop over the pairs: the checks of each, and the index of the keys so far
+pub record EachIndexed (text table : List ℕ) (n : ℕ) (s₀ s : List ℕ) (i at : ℕ) : Type 0 where
+  pub checks : Each pair-checks (pair-in text table) 4 n i at
+  pub index : Indexed text table i s
+  pub long : length s ≡ length s₀
+
+pub indexed-start : (text table : List ℕ) (n : ℕ) (s : List ℕ) → EachIndexed text table n s s 0 0
+indexed-start text table n s = record { checks = each-start pair-checks (pair-in text table) 4 n; index = indexed-none text table s; long = refl }
+
+module _ (text table : List ℕ) (n : ℕ) (s₀ s : List ℕ) (i at : ℕ) (e : EachIndexed text table n s₀ s i at) where
+  pub indexed-end : n ≤ i → Passes ≡ checked (first (each pair-checks [] (items (pair-in text table) 4 n 0)))
+  indexed-end h = each-end pair-checks (pair-in text table) 4 n i at (e .checks) h
+
+  module _ (h : i < n) (t : List ℕ) (c : Checked) (p : PairChecked text table i at t c) where
+    pub indexed-bad : (r : Refusal) → c ≡ Fails r → Fails r ≡ checked (first (each pair-checks [] (items (pair-in text table) 4 n 0)))
+    indexed-bad r q = each-bad pair-checks (pair-in text table) 4 n i at (e .checks) h c (p .is) r q
+
+    pub indexed-more : c ≡ Passes → length t ≡ length s → EachIndexed text table n s₀ t (i + 1) (at + 4)
+    indexed-more q l =
+        record {
+          checks = each-more pair-checks (pair-in text table) 4 n i at (e .checks) h c (p .is) q;
+          index = subst (λ (x : Checked). IndexedAfter x text table (i + 1) t) q (p .after);
+          long = l ∙ e .long;
+        }

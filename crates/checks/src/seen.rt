@@ -1,0 +1,65 @@
+// Refusal 12, by an ordered index of the keys of the pairs before: numbers of pairs, in the order of their keys.
+use super::tables::number;
+use index::Spot;
+use index::insert;
+use index::last;
+use wire::Order;
+use wire::comparing;
+ghost use mathlib.Core.Path.{_≡_};
+ghost use Prim.Native.Nat.{_*_, _≤_, _<_};
+ghost use lib.ListN.{length, getD};
+ghost use Rattle.format.specs.Lent.{items, part-in, pair-in};
+ghost use Rattle.wire.specs.Order.{compare-bytes};
+ghost use Rattle.index.specs.Index.{Sought};
+ghost use Rattle.checks.specs.Table.{Within};
+ghost use Rattle.checks.specs.Seen.{key-of, Indexed, New};
+
+// The key of the pair at place r of the index, against the part at `key`.
+fn probe(text: &[u8], table: &[u32], keys: &[u16], r: usize, key: usize) -> Order
+    requires { ⌜ (Within (now text) (now table) (4 * getD (now keys) r 0)) × (Within (now text) (now table) key) × (r < length (now keys)) ⌝ }
+    ensures { λ o. ⌜ o ≡ compare-bytes (key-of (now (text .entry)) (now (table .entry)) (getD (now (keys .entry)) r 0)) (part-in (now (text .entry)) (now (table .entry)) key) ⌝ }
+{
+    let at = 4 * index::number(keys, r);
+    let start = number(table, at);
+    let len = number(table, at + 1);
+    let start2 = number(table, key);
+    let len2 = number(table, key + 1);
+    comparing::compare_parts(text, start as u64, len as u64, start2 as u64, len2 as u64)
+}
+
+// Looks the part at `key` up among the keys of the first n pairs: the last one first, and then by halves.
+fn find(text: &[u8], table: &[u32], n: usize, keys: &[u16], key: usize) -> Spot
+    requires { ⌜ (Indexed (now text) (now table) n (now keys)) × (n ≤ length (now keys)) × (Within (now text) (now table) key) ⌝ }
+    ensures { λ r. ⌜ Sought (key-of (now (text .entry)) (now (table .entry))) (items (pair-in (now (text .entry)) (now (table .entry))) 4 n 0) n (now (keys .entry)) (part-in (now (text .entry)) (now (table .entry)) key) r ⌝ }
+{
+    let mut lo = 0;
+    let mut hi = n;
+    let mut mid = last(n);
+    while lo < hi {
+        match probe(text, table, keys, mid, key) {
+            Order::Less => {
+                lo = mid + 1;
+                mid = lo + (hi - lo) / 2;
+            }
+            Order::Equal => return Spot::Found,
+            Order::Greater => {
+                hi = mid;
+                mid = lo + (hi - lo) / 2;
+            }
+        }
+    }
+    Spot::At(lo)
+}
+
+// Whether the i-th pair, at `at`, has a key that no pair before it has. If so, it goes into the index.
+pub fn is_new(text: &[u8], table: &[u32], i: usize, at: usize, keys: &mut [u16]) -> bool
+    requires { ⌜ (Indexed (now text) (now table) i (now keys)) × (Within (now text) (now table) at) × (at ≡ 4 * i) × (i < length (now keys)) × (i < 65536) ⌝ }
+    ensures { λ r. ⌜ New (now (text .entry)) (now (table .entry)) i at (now (keys .exit)) r ⌝ }
+{
+    let spot = find(text, table, i, keys, at);
+    let Spot::At(p) = spot else {
+        return false;
+    };
+    insert(keys, p, i, i as u16);
+    true
+}

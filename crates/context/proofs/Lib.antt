@@ -1,0 +1,6 @@
+pub mod Answers
+pub mod Known
+pub mod PairLaws
+pub mod SectionLaws
+pub mod Whole
+pub mod FindLaws

@@ -1,0 +1,196 @@
+-- The ways out of the functions that read pairs, one law each. Assumes nothing.
+use mathlib.Core.Path.{_≡_, refl, sym, ap, subst, _∙_}
+use mathlib.Core.Bool.{Bool, true, false, not}
+use mathlib.Core.List.{List, [], map}
+use Prim.Native.Nat.{ℕ, zero, suc, _+_, _-_, _*_, _≤_, _<_}
+use native.Mathlib.Numerals.{add-one}
+use native.Mathlib.Omega.{arith}
+use borrow.Author.Tests.{lt-ltb, le-ltb, ltb-true, ltb-false}
+use lib.Dec.{ltb}
+use lib.ListN.{length}
+use Rattle.format.specs.Read.{accepted, repeat, at}
+use Rattle.format.specs.Fields.{PairAt, pair-of}
+use Rattle.format.specs.Context.{seen, linear-length, pair-length, read-text, read-aad-pair, read-next-aad-pair}
+use Rattle.steps.specs.Places.{number16, entry-end}
+use Rattle.steps.proofs.Tidy.{text-tidy}
+use Rattle.steps.proofs.Steps.{go, stop, pass, fail, gives}
+use Rattle.steps.proofs.Numbers.{length-part}
+use Rattle.wire.specs.Codes.{because, span-of, why-span}
+use Rattle.wire.specs.declared.Refusal.{Refusal}
+use Rattle.wire.specs.declared.Span.{Span}
+use Rattle.wire.specs.declared.Span.the-variants as span
+use Rattle.wire.proofs.Answers.{span-no}
+use Rattle.wire.proofs.Stood.{Stood, text-stood}
+use Rattle.entries.specs.Places.{items-end, pair-here, pair-end, pairs-here, pairs-end}
+use Rattle.entries.specs.Codes.{next-of}
+use Rattle.entries.specs.declared.Next.{Next}
+use Rattle.entries.specs.declared.Next.the-variants as next
+use Rattle.entries.proofs.Answers.{next-got, next-no}
+use Rattle.entries.proofs.Items.{reach}
+use Rattle.entries.proofs.Walk.{Walk, walk-start, walk-end, walk-stop, walk-more}
+use Rattle.pair_index.specs.Index.{Index, Ready, Added}
+use Rattle.pair_index.proofs.Growing.{index-start}
+use Rattle.context.specs.Stepping.{Onward, Grown, After, Stepped}
+use Rattle.context.proofs.Known.{pair-tidy, pair-known, pair-kind, forward, here-size}
+
+-- a key and a value
+module _ (m : List ℕ) (s : ℕ) (k : Span) (kIs : k ≡ span-of (at (read-text 10) m s)) where
+  pub pair-no-key : (q : Refusal) → k ≡ span.Not q → (a : Refusal) → a ≡ why-span k → next.Not a ≡ next-of (at read-aad-pair m s)
+  unfolding read-aad-pair
+  pair-no-key q b a f = rw (f, b, stop _ (text-tidy 10) m s _ _ (span-no (at (read-text 10) m s) k kIs q b))
+
+  module _ (key n second : ℕ) (kb : k ≡ span.At key n second) (v : Span) (vIs : v ≡ span-of (at (read-text 11) m second)) where
+    ks : Stood (at (read-text 10) m s) m (s + 2) (number16 m s) key n second
+    ks = text-stood m s k key n second kb 10 kIs
+
+    pub pair-no-value : (q : Refusal) → v ≡ span.Not q → (a : Refusal) → a ≡ why-span v → next.Not a ≡ next-of (at read-aad-pair m s)
+    unfolding read-aad-pair
+    pair-no-value q b a f =
+        rw (f, b, go _ (text-tidy 10) m s _ second (ks .is), stop _ (text-tidy 11) m second _ _ (span-no (at (read-text 11) m second) v vIs q b))
+
+    pub pair-whole : (value w t : ℕ) → v ≡ span.At value w t → next.At t ≡ next-of (at read-aad-pair m s)
+    unfolding read-aad-pair
+    pair-whole value w t b =
+        let vs = text-stood m second v value w t b 11 vIs in
+        rw (go _ (text-tidy 10) m s _ second (ks .is), go _ (text-tidy 11) m second _ t (vs .is), gives _ m t)
+
+-- where a pair stands
+record Stands (m : List ℕ) (s t : ℕ) : Type 0 where
+  is : at read-aad-pair m s ≡ accepted (pair-here m s) t
+  tail : t ≡ pair-end m s
+  within : t ≤ length m
+
+stands : (m : List ℕ) (s : ℕ) (x : Next) → x ≡ next-of (at read-aad-pair m s) → (t : ℕ) → x ≡ next.At t → Stands m s t
+stands m s x xIs t b =
+    let g = next-got (at read-aad-pair m s) x xIs t b in
+    let p = pair-known m s (g .item) t (g .is) in
+    record { is = g .is ∙ ap (λ (a : PairAt). accepted a t) (p .is); tail = p .tail; within = p .within }
+
+-- a pair behind others
+module _ (m : List ℕ) (first n s : ℕ) (x : Next) (xIs : x ≡ next-of (at read-aad-pair m s)) where
+  pub step-none : (keys : List ℕ) (q : Refusal) → x ≡ next.Not q → Stepped m first n s keys x
+  unfolding read-next-aad-pair
+  step-none keys q b =
+      record {
+        answer = b ∙ sym (ap next-of (stop _ pair-tidy m s _ _ (next-no (at read-aad-pair m s) x xIs q b)));
+        after = subst (After m first n keys) (sym b) tt;
+      }
+
+  module _ (t : ℕ) (b : x ≡ next.At t) (keys₀ : List ℕ) (on : Onward m first n s keys₀) where
+    there : Stands m s t
+    there = stands m s x xIs t b
+
+    pub step-ready : Ready m first n s keys₀
+    step-ready =
+        let y = there in
+        record {
+          near = omega (arith, on .near);
+          behind = omega (arith, on .here, reach pair-end m (forward m) n first);
+          here = on .here;
+          inside = omega arith;
+          room = on .room;
+          index = on .index;
+        }
+
+    pub step-behind : first ≤ t
+    step-behind = let y = there in omega (arith, on .here, reach pair-end m (forward m) n first)
+
+    module _ (keys : List ℕ) (d : Bool) (added : Added m first n s keys d) where
+      pub step-seen : d ≡ true → (a : Refusal) → a ≡ because 12 0 → Stepped m first n s keys (next.Not a)
+      unfolding read-next-aad-pair
+      step-seen e a f =
+          record {
+            answer = rw (f, go _ pair-tidy m s (pair-here m s) t (there .is), fail 12 _ _ m t (ap not (sym (added .answer) ∙ e)));
+            after = tt;
+          }
+
+      module _ (e : d ≡ false) where
+        size : linear-length (map pair-of (pairs-here m n first)) + pair-length (pair-of (pair-here m s)) ≡ t - first
+        size =
+            let y = there in
+            let h = on .inside in
+            let i = on .here in
+            let a = length-part m (s + 2) (number16 m s) (omega arith) in
+            let c = length-part m (entry-end m s + 2) (number16 m (entry-end m s)) (omega arith) in
+            omega (arith, here-size m n first (omega arith), reach pair-end m (forward m) n first)
+
+        pub step-whole : t - first < 65534 → Stepped m first n s keys (next.At t)
+        unfolding read-next-aad-pair
+        step-whole h =
+            record {
+              answer =
+                  rw (
+                    go _ pair-tidy m s (pair-here m s) t (there .is),
+                    pass 12 _ _ m t (ap not (sym (added .answer) ∙ e)),
+                    pass 13 _ _ m t (ap (λ (i : ℕ). ltb i 65534) size ∙ lt-ltb (t - first) 65534 h),
+                    gives _ m t,
+                  );
+              after = record { index = added .after e; near = omega (arith, step-behind) };
+            }
+
+        pub step-long : 65534 ≤ t - first → (a : Refusal) → a ≡ because 13 0 → Stepped m first n s keys (next.Not a)
+        unfolding read-next-aad-pair
+        step-long h a f =
+            record {
+              answer =
+                  rw (
+                    f,
+                    go _ pair-tidy m s (pair-here m s) t (there .is),
+                    pass 12 _ _ m t (ap not (sym (added .answer) ∙ e)),
+                    fail 13 _ _ m t (ap (λ (i : ℕ). ltb i 65534) size ∙ le-ltb (t - first) 65534 h),
+                  );
+              after = tt;
+            }
+
+pub step-near : (m : List ℕ) (first n s : ℕ) (keys : List ℕ) → Onward m first n s keys → length m < 4294967296 → s < 4294967296
+step-near m first n s keys on h = let y = on .inside in omega arith
+
+-- a pair takes four bytes or more
+four-each : (m : List ℕ) (n first : ℕ) → first + 4 * n ≤ pairs-end m n first
+unfolding items-end
+four-each m zero first = omega arith
+four-each m (suc n) first = omega (arith, four-each m n (pair-end m first))
+
+-- the loop over the pairs
+pub record Pass (m : List ℕ) (first n : ℕ) (keys₀ keys : List ℕ) (i s : ℕ) : Type 0 where
+  pub walk : Walk read-next-aad-pair pair-here pair-end m first n i s
+  pub index : Index m first i keys
+  pub near : s < first + 65534
+  pub long : length keys ≡ length keys₀
+  pub room : length keys₀ < 16384 → n ≤ length keys₀
+
+pub pass-start : (m : List ℕ) (first n : ℕ) (keys : List ℕ) → first ≤ length m → (length keys < 16384 → n ≤ length keys) → Pass m first n keys keys 0 first
+pass-start m first n keys h room = record { walk = walk-start m first n h; index = index-start m first keys; near = omega arith; long = refl; room = room }
+
+module _ (m : List ℕ) (first n : ℕ) (keys₀ keys : List ℕ) (i s : ℕ) (inv : Pass m first n keys₀ keys i s) where
+  pub pass-end : n ≤ i → next.At s ≡ next-of (at (repeat n read-next-aad-pair []) m first)
+  pass-end h = walk-end m first n i s (inv .walk) pair-kind h
+
+  module _ (h : i < n) where
+    few : i < 16384
+    few = let y = inv .walk in omega (arith, four-each m i first, inv .near)
+
+    roomy : i < length keys
+    roomy = go (ltb (length keys₀) 16384) refl
+      where
+        go : (t : Bool) → ltb (length keys₀) 16384 ≡ t → i < length keys
+        go true e = omega (arith, inv .room (ltb-true (length keys₀) 16384 e), inv .long)
+        go false e = omega (arith, few, inv .long, ltb-false (length keys₀) 16384 e)
+
+    pub pass-on : Onward m first i s keys
+    pass-on = record { near = inv .near; here = inv .walk .reached; inside = inv .walk .inside; room = roomy; index = inv .index }
+
+    module _ (a : Next) (keys′ : List ℕ) (step : Stepped m first i s keys′ a) where
+      pub pass-stop : (q : Refusal) → a ≡ next.Not q → next.Not q ≡ next-of (at (repeat n read-next-aad-pair []) m first)
+      pass-stop q e = walk-stop m first n i s (inv .walk) pair-kind h a (step .answer) q e
+
+      pub pass-more : (t : ℕ) → a ≡ next.At t → length keys′ ≡ length keys → Pass m first n keys₀ keys′ (i + 1) t
+      pass-more t e l =
+          let grown : Grown m first i keys′ t = subst (After m first i keys′) e (step .after) in
+          record {
+            walk = walk-more m first n i s (inv .walk) pair-kind h a (step .answer) t e;
+            index = rw add-one (grown .index);
+            near = grown .near;
+            long = l ∙ inv .long;
+            room = inv .room;
+          }

@@ -1,0 +1,155 @@
+-- The ways out of the functions that read a section, one law each. Assumes nothing.
+use mathlib.Core.Path.{_≡_, refl, sym, ap, _∙_}
+use mathlib.Core.Bool.{Bool, true, false}
+use mathlib.Core.List.{List, []}
+use Prim.Native.Nat.{ℕ, _+_, _≤_, _<_}
+use native.Mathlib.Omega.{arith}
+use mir.Syntax.{w64}
+use mir.Val.{Fits}
+use borrow.Author.Tests.{eq-eqb, ne-eqb}
+use lib.ListN.{length}
+use Rattle.format.specs.Read.{accepted, refused, repeat, framed, at}
+use Rattle.format.specs.Serialize.{read-uint16}
+use Rattle.format.specs.Fields.{PairAt}
+use Rattle.format.specs.Context.{read-next-aad-pair, read-aad, read-aad-of, read-aad-section}
+use Rattle.steps.proofs.Tidy.{uint16-tidy}
+use Rattle.steps.proofs.Steps.{go, stop, pass, fail, gives, all-read}
+use Rattle.steps.proofs.Frames.{frame-short, frame-stops, frame-fits, frame-differs}
+use Rattle.steps.proofs.Numbers.{uint16-known}
+use Rattle.wire.specs.Codes.{because, number-of, why-number}
+use Rattle.wire.specs.declared.Refusal.{Refusal}
+use Rattle.wire.specs.declared.Number.{Number}
+use Rattle.wire.specs.declared.Number.the-variants as number
+use Rattle.wire.proofs.Answers.{number-got, number-no}
+use Rattle.request.specs.Codes.{mode-of}
+use Rattle.request.specs.declared.Mode.{Mode}
+use Rattle.request.specs.declared.Mode.the-variants.{Tolerant, Strict}
+use Rattle.entries.specs.Codes.{next-of, why-next}
+use Rattle.entries.specs.declared.Next.{Next}
+use Rattle.entries.specs.declared.Next.the-variants as next
+use Rattle.entries.proofs.Answers.{Went, next-got, next-no}
+use Rattle.entries.proofs.Walk.{all-length}
+use Rattle.context.specs.Codes.{context-of, old-of}
+use Rattle.context.specs.declared.ContextAnswer.{ContextAnswer}
+use Rattle.context.specs.declared.ContextAnswer.the-variants.{Accepted, Refused}
+use Rattle.context.proofs.Known.{next-pair-tidy, pair-kind}
+
+module _ (mode : Mode) (r : ContextAnswer) (tail : ℕ) where
+  pub old-tolerant : mode ≡ Tolerant → r ≡ Accepted 0 tail → r ≡ old-of mode tail
+  old-tolerant e f = f ∙ sym (rw e)
+
+  pub old-strict : mode ≡ Strict → r ≡ Refused (because 21 0) → r ≡ old-of mode tail
+  old-strict e f = f ∙ sym (rw e)
+
+-- the count, by the tests on it
+module _ (mode : Mode) (m : List ℕ) (s n count first : ℕ) (c : at read-uint16 m s ≡ accepted count first) where
+  aad-8 : n ≡ 2 → (count ≡ 0 → ⊥) → at (read-aad (mode-of mode) n) m s ≡ refused 8 0
+  unfolding read-aad
+  aad-8 h k = go _ uint16-tidy m s count first c ∙ rw (eq-eqb n 2 h, ne-eqb count 0 k) (fail 8 false _ m first refl)
+
+  aad-9 : (n ≡ 2 → ⊥) → count ≡ 0 → at (read-aad (mode-of mode) n) m s ≡ refused 9 0
+  unfolding read-aad
+  aad-9 h k =
+      go _ uint16-tidy m s count first c
+      ∙ rw (ne-eqb n 2 h, eq-eqb count 0 k) (pass 8 true _ m first refl ∙ pass 21 true _ m first refl ∙ fail 9 false _ m first refl)
+
+  aad-many : (n ≡ 2 → ⊥) → (count ≡ 0 → ⊥) → at (read-aad (mode-of mode) n) m s ≡ at (repeat count read-next-aad-pair []) m first
+  unfolding read-aad
+  aad-many h k =
+      go _ uint16-tidy m s count first c
+      ∙ rw (ne-eqb n 2 h, ne-eqb count 0 k) (pass 8 true _ m first refl ∙ pass 21 true _ m first refl ∙ pass 9 true _ m first refl)
+
+  aad-old : n ≡ 2 → count ≡ 0 → mode ≡ Tolerant → at (read-aad (mode-of mode) n) m s ≡ accepted [] first
+  unfolding read-aad
+  aad-old h k e =
+      go _ uint16-tidy m s count first c
+      ∙ rw (h, k, e) (pass 8 true _ m first refl ∙ pass 21 true _ m first refl ∙ pass 9 true _ m first refl ∙ all-read read-next-aad-pair next-pair-tidy m [] first)
+
+  aad-21 : n ≡ 2 → count ≡ 0 → mode ≡ Strict → at (read-aad (mode-of mode) n) m s ≡ refused 21 0
+  unfolding read-aad
+  aad-21 h k e = go _ uint16-tidy m s count first c ∙ rw (h, k, e) (pass 8 true _ m first refl ∙ fail 21 false _ m first refl)
+
+-- what follows the length
+module _ (mode : Mode) (m : List ℕ) (s n : ℕ) (g : s + n ≤ length m) (x : Number) (is : x ≡ number-of (at read-uint16 m s)) where
+  stops : (k p : ℕ) → at (read-aad (mode-of mode) n) m s ≡ refused k p → at (framed n 14 (read-aad (mode-of mode) n)) m s ≡ refused k p
+  stops k p e = frame-stops n 14 (read-aad (mode-of mode) n) m s (omega arith) g k p e
+
+  pub counted-none : (q : Refusal) → x ≡ number.Not q → (a : Refusal) → a ≡ why-number x → Refused a ≡ context-of (at (framed n 14 (read-aad (mode-of mode) n)) m s)
+  unfolding read-aad
+  counted-none q b a f = rw (f, b, stops _ _ (stop _ uint16-tidy m s _ _ (number-no (at read-uint16 m s) x is q b)))
+
+  module _ (count first : ℕ) (b : x ≡ number.Is count first) where
+    c : at read-uint16 m s ≡ accepted count first
+    c = number-got (at read-uint16 m s) x is count first b
+
+    first-in : first ≤ length m
+    first-in = let y = uint16-known m s count first c in omega arith
+
+    module _ (r : ContextAnswer) where
+      pub counted-old : n ≡ 2 → count ≡ 0 → r ≡ old-of mode first → r ≡ context-of (at (framed n 14 (read-aad (mode-of mode) n)) m s)
+      counted-old h k f = f ∙ by mode refl
+        where
+          by : (w : Mode) → mode ≡ w → old-of mode first ≡ context-of (at (framed n 14 (read-aad (mode-of mode) n)) m s)
+          by Tolerant e =
+              let y = uint16-known m s count first c in
+              let o = frame-fits n 14 (read-aad (mode-of mode) n) m s (omega arith) g [] first (aad-old mode m s n count first c h k e) (omega arith) in
+              ap (λ (w : Mode). old-of w first) e ∙ sym (ap context-of o)
+          by Strict e = ap (λ (w : Mode). old-of w first) e ∙ sym (ap context-of (stops 21 0 (aad-21 mode m s n count first c h k e)))
+
+      pub counted-8 : n ≡ 2 → (count ≡ 0 → ⊥) → r ≡ Refused (because 8 0) → r ≡ context-of (at (framed n 14 (read-aad (mode-of mode) n)) m s)
+      counted-8 h k f = f ∙ sym (rw (stops 8 0 (aad-8 mode m s n count first c h k)))
+
+      pub counted-9 : (n ≡ 2 → ⊥) → count ≡ 0 → r ≡ Refused (because 9 0) → r ≡ context-of (at (framed n 14 (read-aad (mode-of mode) n)) m s)
+      counted-9 h k f = f ∙ sym (rw (stops 9 0 (aad-9 mode m s n count first c h k)))
+
+    module _ (h : n ≡ 2 → ⊥) (k : count ≡ 0 → ⊥) (e : Next) (eIs : e ≡ next-of (at (repeat count read-next-aad-pair []) m first)) where
+      pub counted-stop : (q : Refusal) → e ≡ next.Not q → (a : Refusal) → a ≡ why-next e → Refused a ≡ context-of (at (framed n 14 (read-aad (mode-of mode) n)) m s)
+      counted-stop q d a f =
+          rw (f, d, stops _ _ (aad-many mode m s n count first c h k ∙ next-no (at (repeat count read-next-aad-pair []) m first) e eIs q d))
+
+      module _ (t : ℕ) (d : e ≡ next.At t) (r : ContextAnswer) where
+        went : Went (at (repeat count read-next-aad-pair []) m first) t
+        went = next-got (at (repeat count read-next-aad-pair []) m first) e eIs t d
+
+        pub counted-14 : (t ≡ s + n → ⊥) → r ≡ Refused (because 14 0) → r ≡ context-of (at (framed n 14 (read-aad (mode-of mode) n)) m s)
+        counted-14 j f =
+            f
+            ∙ sym (ap context-of (frame-differs n 14 (read-aad (mode-of mode) n) m s (omega arith) g (went .item) t (aad-many mode m s n count first c h k ∙ went .is) j))
+
+        pub counted-whole : t ≡ s + n → r ≡ Accepted count t → r ≡ context-of (at (framed n 14 (read-aad (mode-of mode) n)) m s)
+        counted-whole j f =
+            f ∙ ap (λ (i : ℕ). Accepted i t) (sym (all-length pair-kind m count first first-in (went .item) t (went .is)))
+            ∙ sym (ap context-of (frame-fits n 14 (read-aad (mode-of mode) n) m s (omega arith) g (went .item) t (aad-many mode m s n count first c h k ∙ went .is) j))
+
+-- a section at a place
+module _ (mode : Mode) (m : List ℕ) (s : ℕ) (x : Number) (is : x ≡ number-of (at read-uint16 m s)) where
+  pub section-none : (q : Refusal) → x ≡ number.Not q → (a : Refusal) → a ≡ why-number x → Refused a ≡ context-of (at (read-aad-section (mode-of mode)) m s)
+  unfolding read-aad-section
+  section-none q b a f = rw (f, b, stop _ uint16-tidy m s _ _ (number-no (at read-uint16 m s) x is q b))
+
+  module _ (n t : ℕ) (b : x ≡ number.Is n t) where
+    d : at read-uint16 m s ≡ accepted n t
+    d = number-got (at read-uint16 m s) x is n t b
+
+    at-empty : n ≡ 0 → at (read-aad-section (mode-of mode)) m s ≡ accepted [] t
+    unfolding read-aad-section read-aad-of
+    at-empty z = go _ uint16-tidy m s n t d ∙ rw (eq-eqb n 0 z) (gives [] m t)
+
+    at-rest : (n ≡ 0 → ⊥) → at (read-aad-section (mode-of mode)) m s ≡ at (framed n 14 (read-aad (mode-of mode) n)) m t
+    unfolding read-aad-section read-aad-of
+    at-rest z = go _ uint16-tidy m s n t d ∙ rw (ne-eqb n 0 z)
+
+    pub section-empty : n ≡ 0 → (r : ContextAnswer) → r ≡ Accepted 0 t → r ≡ context-of (at (read-aad-section (mode-of mode)) m s)
+    section-empty z r f = f ∙ sym (ap context-of (at-empty z))
+
+    module _ (z : n ≡ 0 → ⊥) where
+      pub section-short : length m < t + n → (a : Refusal) → a ≡ because 2 (t + n) → Refused a ≡ context-of (at (read-aad-section (mode-of mode)) m s)
+      section-short h a f =
+          let y = uint16-known m s n t d in
+          ap (λ (q : Refusal). Refused q) f ∙ sym (ap context-of (at-rest z ∙ frame-short n 14 (read-aad (mode-of mode) n) m t (omega arith) h))
+
+      pub section-rest : (r : ContextAnswer) → r ≡ context-of (at (framed n 14 (read-aad (mode-of mode) n)) m t) → r ≡ context-of (at (read-aad-section (mode-of mode)) m s)
+      section-rest r f = f ∙ sym (ap context-of (at-rest z))
+
+pub length-fits : (m : List ℕ) (s : ℕ) (x : Number) → x ≡ number-of (at read-uint16 m s) → (n t : ℕ) → x ≡ number.Is n t → length m < 4294967296 → n < 65536 → Fits w64 (t + n)
+length-fits m s x is n t b h k = let y = uint16-known m s n t (number-got (at read-uint16 m s) x is n t b) in omega arith

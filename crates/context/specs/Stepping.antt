@@ -1,0 +1,34 @@
+-- What the steps of reading pairs with the index of their keys say to each other. Assumes nothing.
+use mathlib.Core.Path.{_≡_}
+use mathlib.Core.List.{List}
+use Prim.Native.Nat.{ℕ, suc, _+_, _≤_, _<_}
+use lib.ListN.{length}
+use Rattle.format.specs.Read.{at}
+use Rattle.format.specs.Context.{read-next-aad-pair}
+use Rattle.entries.specs.Places.{pairs-here, pairs-end}
+use Rattle.entries.specs.Codes.{next-of}
+use Rattle.entries.specs.declared.Next.{Next}
+use Rattle.entries.specs.declared.Next.the-variants as next
+use Rattle.pair_index.specs.Index.{Index}
+
+-- n pairs from `first` on end at s, the index has their keys, and it has room for one more
+pub record Onward (m : List ℕ) (first n s : ℕ) (keys : List ℕ) : Type 0 where
+  pub near : s < first + 65534
+  pub here : s ≡ pairs-end m n first
+  pub inside : s ≤ length m
+  pub room : n < length keys
+  pub index : Index m first n keys
+
+-- one more pair was read, which ends at t, and the index has its key
+pub record Grown (m : List ℕ) (first n : ℕ) (keys : List ℕ) (t : ℕ) : Type 0 where
+  pub index : Index m first (suc n) keys
+  pub near : t < first + 65534
+
+abbrev pub After : List ℕ → ℕ → ℕ → List ℕ → Next → Type 0
+After m first n keys (next.At t) = Grown m first n keys t
+After m first n keys (next.Not r) = Unit {0}
+
+-- the answer is the definition's, and the index follows it
+pub record Stepped (m : List ℕ) (first n s : ℕ) (keys : List ℕ) (r : Next) : Type 0 where
+  pub answer : r ≡ next-of (at (read-next-aad-pair (pairs-here m n first)) m s)
+  pub after : After m first n keys r

@@ -1,0 +1,79 @@
+// A context section at a place of a message, without refusal 1 and without its table.
+use super::ContextAnswer;
+use super::accepted;
+use super::pairs;
+use super::refused;
+use entries::Next;
+use request::Mode;
+use wire::Number;
+use wire::reading;
+use wire::refusals;
+use wire::shortage;
+ghost use mathlib.Core.Path.{_≡_};
+ghost use Prim.Native.Nat.{_+_, _≤_, _<_};
+ghost use lib.ListN.{length};
+ghost use Rattle.format.specs.Read.{at, framed};
+ghost use Rattle.format.specs.Context.{read-aad, read-aad-section};
+ghost use Rattle.request.specs.Codes.{mode-of};
+ghost use Rattle.context.specs.Codes.{context-of, old-of};
+
+// An empty context in its old form.
+fn old_empty(mode: Mode, tail: u64) -> ContextAnswer
+    ensures { λ r. ⌜ r ≡ old-of mode tail ⌝ }
+{
+    match mode {
+        Mode::Tolerant => accepted(0, tail),
+        Mode::Strict => refused(refusals::OLD_EMPTY_CONTEXT),
+    }
+}
+
+// What follows the section's length n, which the message has: a count and the pairs.
+fn counted(m: &[u8], s: u64, n: u64, mode: Mode) -> ContextAnswer
+    requires { ⌜ (s + n ≤ length (now m)) × (length (now m) < 4294967296) ⌝ }
+    ensures { λ r. ⌜ r ≡ context-of (at (framed n 14 (read-aad (mode-of mode) n)) (now (m .entry)) s) ⌝ }
+{
+    let x = reading::read_u16(m, s);
+    let Number::Is {
+        value: count,
+        tail: first,
+    } = x
+    else {
+        return ContextAnswer::Refused(x.refusal());
+    };
+    if n == 2 {
+        if count == 0 {
+            return old_empty(mode, first);
+        }
+        return refused(refusals::COUNT_IN_EMPTY_CONTEXT);
+    }
+    if count == 0 {
+        return refused(refusals::NO_COUNT_IN_CONTEXT);
+    }
+    let e = pairs::read_pairs(m, first, count);
+    let Next::At(tail) = e else {
+        return ContextAnswer::Refused(e.refusal());
+    };
+    if tail == s + n {
+        return accepted(count, tail);
+    }
+    refused(refusals::CONTEXT_LENGTH)
+}
+
+// ReadAADSection at a place.
+pub fn context_at(m: &[u8], start: u64, mode: Mode) -> ContextAnswer
+    requires { ⌜ (start < 4294967296) × (length (now m) < 4294967296) ⌝ }
+    ensures { λ r. ⌜ r ≡ context-of (at (read-aad-section (mode-of mode)) (now (m .entry)) start) ⌝ }
+{
+    let x = reading::read_u16(m, start);
+    let Number::Is { value: n, tail } = x else {
+        return ContextAnswer::Refused(x.refusal());
+    };
+    if n == 0 {
+        return accepted(0, tail);
+    }
+    let end = tail + n;
+    if (m.len() as u64) < end {
+        return ContextAnswer::Refused(shortage(end));
+    }
+    counted(m, tail, n, mode)
+}

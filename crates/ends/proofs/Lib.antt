@@ -1,0 +1,4 @@
+pub mod Tidy
+pub mod SharedLaws
+pub mod OpeningLaws
+pub mod ClosingLaws

@@ -1,0 +1,4 @@
+pub mod Answers
+pub mod Items
+pub mod Walk
+pub mod Tables

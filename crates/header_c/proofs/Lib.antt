@@ -1,0 +1,2 @@
+pub mod BodyCrossing
+pub mod Crossing

@@ -1,0 +1,161 @@
+-- What crosses the boundary, of what the definitions answer; number 0: accepted. Assumes nothing.
+use Prim.Native.Nat.{ℕ}
+use mathlib.Core.Path.{_≡_}
+use mathlib.Core.List.{List}
+use lib.ListN.{length}
+use Rattle.format.specs.Read.{Answer, accepted, refused, operation}
+use Rattle.format.specs.Serialize.{Part}
+use Rattle.format.specs.Fields.{HeaderBody as BodyRead}
+use Rattle.format.specs.Context.{tolerant}
+use Rattle.format.specs.Keys.{no-max}
+use Rattle.format.specs.Body.{either, read-header-body}
+use Rattle.format.specs.Auth.{no-header-auth}
+use Rattle.format.specs.Auth.{HeaderAuth as AuthTag}
+use Rattle.format.specs.Lent.{pair-table-after, key-table-after, Writing, written, output-after, BodyToWrite}
+use Rattle.body_write.specs.Lent.{body-to-write}
+use Rattle.body_write.specs.declared.Numbers.{Numbers}
+use Rattle.context.specs.declared.ContextAnswer.{ContextAnswer}
+use Rattle.context.specs.declared.ContextAnswer.the-variants as context
+use Rattle.context.specs.declared.FoundAnswer.{FoundAnswer}
+use Rattle.context.specs.declared.FoundAnswer.the-variants as found
+use Rattle.keys.specs.declared.KeysAnswer.{KeysAnswer}
+use Rattle.keys.specs.declared.KeysAnswer.the-variants as keys
+use Rattle.auth.specs.declared.AuthRead.{AuthRead}
+use Rattle.body_reader.specs.Codes.{body-code}
+use Rattle.body_reader.specs.declared.HeaderBody.{HeaderBody as BodyNumbers}
+use Rattle.body_reader.specs.declared.HeaderBodyAnswer.{HeaderBodyAnswer}
+use Rattle.body_reader.specs.declared.HeaderBodyAnswer.the-variants as body
+use Rattle.checks.specs.declared.WriteAnswer.{WriteAnswer}
+use Rattle.checks.specs.declared.WriteAnswer.the-variants as write
+use Rattle.header_c.specs.declared.HeaderSection.{HeaderSection}
+use Rattle.header_c.specs.declared.HeaderAuth.{HeaderAuth}
+use Rattle.header_c.specs.declared.HeaderBody.{HeaderBody}
+use Rattle.header_c.specs.declared.HeaderPlace.{HeaderPlace}
+use Rattle.header_c.specs.declared.HeaderWritten.{HeaderWritten}
+use Rattle.header_c.specs.declared.HeaderNumbers.{HeaderNumbers}
+
+-- a section of pairs or of keys
+abbrev pub section-record : {A : Type 0} → Answer (List A) → HeaderSection
+section-record (accepted items t) = record { number = 0; position = 0; count = length items; tail = t }
+section-record (refused k p) = record { number = k; position = p; count = 0; tail = 0 }
+
+abbrev pub context-fields : ContextAnswer → HeaderSection
+context-fields (context.Accepted n t) = record { number = 0; position = 0; count = n; tail = t }
+context-fields (context.Refused q) = record { number = q .number; position = q .position; count = 0; tail = 0 }
+
+abbrev pub keys-fields : KeysAnswer → HeaderSection
+keys-fields (keys.Accepted n t) = record { number = 0; position = 0; count = n; tail = t }
+keys-fields (keys.Refused q) = record { number = q .number; position = q .position; count = 0; tail = 0 }
+
+-- an authentication record
+abbrev pub auth-record : Answer AuthTag → HeaderAuth
+auth-record (accepted a t) = record { number = 0; position = 0; tail = t; iv = a .headerIv; tag = a .headerAuthTag }
+auth-record (refused k p) = record { number = k; position = p; tail = 0; iv = no-header-auth .headerIv; tag = no-header-auth .headerAuthTag }
+
+abbrev pub auth-fields : AuthRead → HeaderAuth
+auth-fields a = record { number = a .number; position = a .position; tail = a .tail; iv = a .iv; tag = a .tag }
+
+-- a body
+abbrev pub body-with : BodyNumbers → ℕ → HeaderBody
+body-with b t =
+    record {
+      number = 0;
+      position = 0;
+      version = b .version;
+      messageType = b .messageType;
+      suite = b .suite;
+      messageId = b .messageId;
+      messageIdLen = b .messageIdLen;
+      pairs = b .pairs;
+      keys = b .keys;
+      contentType = b .contentType;
+      headerIvLength = b .headerIvLength;
+      frameLength = b .frameLength;
+      suiteData = b .suiteData;
+      suiteDataLen = b .suiteDataLen;
+      tail = t;
+    }
+
+abbrev pub no-body : ℕ → ℕ → HeaderBody
+no-body k p =
+    record {
+      number = k;
+      position = p;
+      version = 0;
+      messageType = 0;
+      suite = 0;
+      messageId = 0;
+      messageIdLen = 0;
+      pairs = 0;
+      keys = 0;
+      contentType = 0;
+      headerIvLength = 0;
+      frameLength = 0;
+      suiteData = 0;
+      suiteDataLen = 0;
+      tail = 0;
+    }
+
+abbrev pub body-record : Answer BodyRead → HeaderBody
+body-record (accepted b t) = body-with (body-code b) t
+body-record (refused k p) = no-body k p
+
+abbrev pub body-fields : HeaderBodyAnswer → HeaderBody
+body-fields (body.Accepted b t) = body-with b t
+body-fields (body.Refused q) = no-body (q .number) (q .position)
+
+-- the contract of the body reader: what it answers, and what both tables hold afterwards
+pub record ReadsBody (o : Answer BodyRead) (pairs pairs′ keys keys′ : List ℕ) (r : HeaderBody) : Type 0 where
+  pub answer : r ≡ body-record o
+  pub pairTable : pairs′ ≡ pair-table-after o pairs
+  pub keyTable : keys′ ≡ key-table-after o keys
+
+-- a header at a start, read as the listing program does; its number and its position
+abbrev pub as-listed : List ℕ → ℕ → Answer BodyRead
+as-listed m start = operation (read-header-body either tolerant no-max 4096 4096) m start
+
+abbrev pub answer-number : Answer BodyRead → ℕ
+answer-number (accepted b t) = 0
+answer-number (refused k p) = k
+
+abbrev pub answer-position : Answer BodyRead → ℕ
+answer-position (accepted b t) = t
+answer-position (refused k p) = p
+
+-- a value
+abbrev pub place-record : Answer Part → HeaderPlace
+place-record (accepted v t) = record { number = 0; position = 0; start = v .start; len = length (v .bytes) }
+place-record (refused k p) = record { number = k; position = p; start = 0; len = 0 }
+
+abbrev pub found-fields : FoundAnswer → HeaderPlace
+found-fields (found.At s n) = record { number = 0; position = 0; start = s; len = n }
+found-fields (found.Refused q) = record { number = q .number; position = q .position; start = 0; len = 0 }
+
+-- what was written
+abbrev pub written-record : Answer (Unit {0}) → HeaderWritten
+written-record (accepted u n) = record { number = 0; length = n }
+written-record (refused k p) = record { number = k; length = 0 }
+
+abbrev pub write-fields : WriteAnswer → HeaderWritten
+write-fields (write.Written n) = record { number = 0; length = n }
+write-fields (write.Refused q) = record { number = q .number; length = 0 }
+
+-- the contract of every writer: what it answers, and what the output holds afterwards
+pub record Writes (w : Writing) (before after : List ℕ) (r : HeaderWritten) : Type 0 where
+  pub answer : r ≡ written-record (written w before)
+  pub output : after ≡ output-after w before
+
+abbrev pub numbers-of : HeaderNumbers → Numbers
+numbers-of n =
+    record {
+      version = n .version;
+      messageType = n .messageType;
+      suite = n .suite;
+      contentType = n .contentType;
+      headerIvLength = n .headerIvLength;
+      frameLength = n .frameLength;
+    }
+
+-- what the body writer is lent
+abbrev pub body-lent : HeaderNumbers → List ℕ → List ℕ → List ℕ → List ℕ → List ℕ → BodyToWrite
+body-lent n messageId suiteData text pairs keys = body-to-write (numbers-of n) messageId suiteData text pairs keys

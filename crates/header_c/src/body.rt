@@ -1,0 +1,78 @@
+// Reading a body.
+use crate::HeaderBody;
+use crate::asked::request_asked;
+use body_reader::HeaderBodyAnswer;
+use wire::Refusal;
+ghost use mathlib.Core.Path.{_≡_};
+ghost use lib.ListN.{length};
+ghost use Rattle.format.specs.Read.{operation};
+ghost use Rattle.format.specs.Body.{read-header-body};
+ghost use Rattle.request.specs.Codes.{which-of, mode-of, max-of};
+ghost use Rattle.header_c.specs.Asked.{which-asked, mode-asked, max-asked};
+ghost use Rattle.header_c.specs.Exports.{no-body, body-fields, ReadsBody};
+
+fn no_body(q: Refusal) -> HeaderBody
+    ensures { λ r. ⌜ r ≡ no-body (q .number) (q .position) ⌝ }
+{
+    HeaderBody {
+        number: q.number as u64,
+        position: q.position,
+        version: 0,
+        messageType: 0,
+        suite: 0,
+        messageId: 0,
+        messageIdLen: 0,
+        pairs: 0,
+        keys: 0,
+        contentType: 0,
+        headerIvLength: 0,
+        frameLength: 0,
+        suiteData: 0,
+        suiteDataLen: 0,
+        tail: 0,
+    }
+}
+
+fn body_record(a: HeaderBodyAnswer) -> HeaderBody
+    ensures { λ r. ⌜ r ≡ body-fields a ⌝ }
+{
+    match a {
+        HeaderBodyAnswer::Accepted { body, tail } => HeaderBody {
+            number: 0,
+            position: 0,
+            version: body.version,
+            messageType: body.messageType,
+            suite: body.suite,
+            messageId: body.messageId,
+            messageIdLen: body.messageIdLen,
+            pairs: body.pairs,
+            keys: body.keys,
+            contentType: body.contentType,
+            headerIvLength: body.headerIvLength,
+            frameLength: body.frameLength,
+            suiteData: body.suiteData,
+            suiteDataLen: body.suiteDataLen,
+            tail,
+        },
+        HeaderBodyAnswer::Refused(q) => no_body(q),
+    }
+}
+
+// which 0: either version; 1: version 1 only; any other: version 2 only. Mode and maximum as for the sections. The places of the
+// pairs and keys go into the tables, four numbers a pair and six a key; on a refusal both keep.
+#[no_mangle]
+pub extern "C" fn header_read_header_body(
+    m: &[u8],
+    start: u64,
+    which: u8,
+    mode: u8,
+    hasMax: u8,
+    max: u64,
+    pairs: &mut [u32],
+    keys: &mut [u32],
+) -> HeaderBody
+    ensures { λ r. ⌜ ReadsBody (operation (read-header-body (which-of (which-asked which)) (mode-of (mode-asked mode)) (max-of (max-asked hasMax max)) (length (now (pairs .entry))) (length (now (keys .entry)))) (now (m .entry)) start) (now (pairs .entry)) (now (pairs .exit)) (now (keys .entry)) (now (keys .exit)) r ⌝ }
+{
+    let request = request_asked(which, mode, hasMax, max);
+    body_record(body_reader::read_header_body(m, start, request, pairs, keys))
+}

@@ -1,0 +1,95 @@
+// The four writers. On a refusal the output is as it was.
+use crate::HeaderNumbers;
+use crate::HeaderWritten;
+use body_write::Numbers;
+use checks::WriteAnswer;
+ghost use mathlib.Core.Path.{_≡_};
+ghost use Rattle.format.specs.Lent.{writing-aad-section, writing-encrypted-data-keys-section, writing-header-auth-tag, writing-header-body};
+ghost use Rattle.header_c.specs.Exports.{Writes, write-fields, numbers-of, body-lent};
+
+fn written_record(a: WriteAnswer) -> HeaderWritten
+    ensures { λ r. ⌜ r ≡ write-fields a ⌝ }
+{
+    match a {
+        WriteAnswer::Written(n) => HeaderWritten {
+            number: 0,
+            length: n as u64,
+        },
+        WriteAnswer::Refused(q) => HeaderWritten {
+            number: q.number as u64,
+            length: 0,
+        },
+    }
+}
+
+// Four numbers a pair in the table, places of the text.
+#[no_mangle]
+pub extern "C" fn header_write_aad_section(
+    text: &[u8],
+    pairs: &[u32],
+    out: &mut [u8],
+) -> HeaderWritten
+    ensures { λ r. ⌜ Writes (writing-aad-section (now (text .entry)) (now (pairs .entry))) (now (out .entry)) (now (out .exit)) r ⌝ }
+{
+    written_record(section_write::write_aad_section(text, pairs, out))
+}
+
+// Six numbers a key in the table, places of the text.
+#[no_mangle]
+pub extern "C" fn header_write_encrypted_data_keys_section(
+    text: &[u8],
+    keys: &[u32],
+    out: &mut [u8],
+) -> HeaderWritten
+    ensures { λ r. ⌜ Writes (writing-encrypted-data-keys-section (now (text .entry)) (now (keys .entry))) (now (out .entry)) (now (out .exit)) r ⌝ }
+{
+    written_record(section_write::write_encrypted_data_keys_section(text, keys, out))
+}
+
+#[no_mangle]
+pub extern "C" fn header_write_header_auth_tag(
+    suite: u16,
+    iv: &[u8],
+    tag: &[u8],
+    out: &mut [u8],
+) -> HeaderWritten
+    ensures { λ r. ⌜ Writes (writing-header-auth-tag suite (now (iv .entry)) (now (tag .entry))) (now (out .entry)) (now (out .exit)) r ⌝ }
+{
+    written_record(auth_write::write_header_auth_tag(suite, iv, tag, out))
+}
+
+fn numbers_of(n: HeaderNumbers) -> Numbers
+    ensures { λ r. ⌜ r ≡ numbers-of n ⌝ }
+{
+    Numbers {
+        version: n.version,
+        messageType: n.messageType,
+        suite: n.suite,
+        contentType: n.contentType,
+        headerIvLength: n.headerIvLength,
+        frameLength: n.frameLength,
+    }
+}
+
+#[no_mangle]
+pub extern "C" fn header_write_header_body(
+    numbers: HeaderNumbers,
+    messageId: &[u8],
+    suiteData: &[u8],
+    text: &[u8],
+    pairs: &[u32],
+    keys: &[u32],
+    out: &mut [u8],
+) -> HeaderWritten
+    ensures { λ r. ⌜ Writes (writing-header-body (body-lent numbers (now (messageId .entry)) (now (suiteData .entry)) (now (text .entry)) (now (pairs .entry)) (now (keys .entry)))) (now (out .entry)) (now (out .exit)) r ⌝ }
+{
+    written_record(body_write::write_header_body(
+        numbers_of(numbers),
+        messageId,
+        suiteData,
+        text,
+        pairs,
+        keys,
+        out,
+    ))
+}

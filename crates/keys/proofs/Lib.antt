@@ -1,0 +1,4 @@
+pub mod Answers
+pub mod Known
+pub mod SectionLaws
+pub mod Whole

@@ -1,0 +1,3 @@
+pub mod Seeking
+pub mod Moved
+pub mod Growing

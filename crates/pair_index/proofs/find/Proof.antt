@@ -1,0 +1,17 @@
+use Prim.Native.Nat.{_-_}
+use Rattle.format.specs.Lent.{bytes-at}
+use Rattle.pair_index.proofs.Seeking.{Bracket, bracket-start, bracket-end, mid-readable, mid-found, mid-less, mid-greater}
+use borrow.Author.Needs.{needs}
+use Rattle.pair_index.proofs.find.Statement.{statement}
+use Rattle.pair_index.proofs.find.Tie as tie
+
+ruleset laws = (bracket-start, bracket-end, mid-readable, mid-found, mid-less, mid-greater, needs)
+
+abbrev Inv-loop : tie.InvT-loop
+Inv-loop m first n s key len lo₀ hi₀ mid₀ lo hi mid = Bracket m first n s (bytes-at m key len) lo hi mid
+
+abbrev μ-loop : tie.MeasureT-loop
+μ-loop m first n s key len lo₀ hi₀ mid₀ lo hi mid = hi - lo
+
+pub find-spec : {M : Type 1} → statement M
+find-spec = tie.close (tie.spec Inv-loop μ-loop (λ c κs. search laws) (λ c. search laws) (λ c κs. search laws) (λ c. search laws) (λ c. search laws) (λ c. search laws) (λ c. search laws) (λ c. search laws) (λ c. search laws) (λ c. search laws) (λ c. search laws) (λ c. search laws) (λ c. search laws) (λ c. search laws) (λ c. search laws) (λ c. search laws) (λ c. search laws))

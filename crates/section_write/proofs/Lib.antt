@@ -1,0 +1,3 @@
+pub mod Putting
+pub mod Images
+pub mod SectionLaws

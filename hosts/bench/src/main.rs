@@ -1,0 +1,33 @@
+//! Speed as ratios, ours against others in one run:
+//! `cargo run --release -p bench -- GROUP..`
+//!
+//! A command and no test, since a time depends on what else runs.
+#![forbid(unsafe_code)]
+
+mod groups;
+mod measure;
+mod samples;
+mod table;
+
+use std::process::ExitCode;
+use table::Table;
+
+fn main() -> ExitCode {
+    let wanted: Vec<String> = std::env::args().skip(1).collect();
+    let known = |name: &String| groups::GROUPS.iter().any(|group| group.0 == name);
+    if wanted.is_empty() || !wanted.iter().all(known) {
+        eprintln!("name one group or more of:");
+        for (name, what, _) in groups::GROUPS {
+            eprintln!("  {name}  {what}");
+        }
+        return ExitCode::from(2);
+    }
+    let mut table = Table::begin();
+    for (name, _, rows) in groups::GROUPS {
+        if wanted.iter().any(|wanted| wanted == name) {
+            rows(&mut table);
+        }
+    }
+    table.end();
+    ExitCode::SUCCESS
+}

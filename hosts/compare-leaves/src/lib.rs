@@ -1,0 +1,6 @@
+//! What the comparisons of the proved leaves with the separate
+//! implementation share.
+#![forbid(unsafe_code)]
+
+pub mod records;
+pub mod report;
