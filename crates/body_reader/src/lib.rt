@@ -5,8 +5,6 @@ use ends::ClosingAnswer;
 use ends::Opening;
 use ends::OpeningAnswer;
 use keys::KeysAnswer;
-use request::Max;
-use request::Mode;
 use request::Request;
 use request::Which;
 use wire::Refusal;
@@ -45,13 +43,14 @@ pub enum HeaderBodyAnswer {
     Refused(Refusal),
 }
 
-// A body before its tables are filled: its ends, where its sections start, and how many pairs and keys they have.
+// A body before its tables are filled: its ends, the starts of its context section and its key section, and how many pairs and
+// keys they have.
 pub enum MeasureAnswer {
     Is {
         opening: Opening,
-        context: u64,
+        aad: u64,
         pairs: u64,
-        keySection: u64,
+        edks: u64,
         keys: u64,
         closing: Closing,
         tail: u64,
@@ -67,9 +66,9 @@ impl MeasureAnswer {
         match self {
             MeasureAnswer::Is {
                 opening: _,
-                context: _,
+                aad: _,
                 pairs: _,
-                keySection: _,
+                edks: _,
                 keys: _,
                 closing: _,
                 tail: _,
@@ -137,27 +136,22 @@ fn frame_passes(which: Which, contentType: u64, frameLength: u64) -> bool
 }
 
 // The body at a place, its tables left aside: its tests up to 20.
-fn measure(m: &[u8], start: u64, which: Which, mode: Mode, max: Max) -> MeasureAnswer
+fn measure(m: &[u8], start: u64, request: Request) -> MeasureAnswer
     requires { ⌜ (start < 4294967296) × (length (now m) < 4294967296) ⌝ }
-    ensures { λ r. ⌜ Measured which mode max (now (m .entry)) start r ⌝ }
+    ensures { λ r. ⌜ Measured (request .which) (request .mode) (request .max) (now (m .entry)) start r ⌝ }
 {
+    let which = request.which;
+    let mode = request.mode;
+    let max = request.max;
     let a = ends::read_opening(m, start, which);
-    let OpeningAnswer::Is {
-        opening,
-        tail: context,
-    } = a
-    else {
+    let OpeningAnswer::Is { opening, tail: aad } = a else {
         return MeasureAnswer::Not(a.refusal());
     };
-    let b = context::section::context_at(m, context, mode);
-    let ContextAnswer::Accepted {
-        pairs,
-        tail: keySection,
-    } = b
-    else {
+    let b = context::section::context_at(m, aad, mode);
+    let ContextAnswer::Accepted { pairs, tail: edks } = b else {
         return MeasureAnswer::Not(b.refusal());
     };
-    let c = keys::section::keys_at(m, keySection, max);
+    let c = keys::section::keys_at(m, edks, max);
     let KeysAnswer::Accepted { keys, tail: end } = c else {
         return MeasureAnswer::Not(c.refusal());
     };
@@ -168,9 +162,9 @@ fn measure(m: &[u8], start: u64, which: Which, mode: Mode, max: Max) -> MeasureA
     if frame_passes(which, closing.contentType, closing.frameLength) {
         return MeasureAnswer::Is {
             opening,
-            context,
+            aad,
             pairs,
-            keySection,
+            edks,
             keys,
             closing,
             tail,
@@ -190,15 +184,12 @@ fn body_at(
     requires { ⌜ (start < 4294967296) × (length (now m) < 4294967296) ⌝ }
     ensures { λ r. ⌜ ReadsBody (at (read-header-body (which-of (request .which)) (mode-of (request .mode)) (max-of (request .max)) (length (now (pairTable .entry))) (length (now (keyTable .entry)))) (now (m .entry)) start) (now (pairTable .entry)) (now (pairTable .exit)) (now (keyTable .entry)) (now (keyTable .exit)) r ⌝ }
 {
-    let which = request.which;
-    let mode = request.mode;
-    let max = request.max;
-    let a = measure(m, start, which, mode, max);
+    let a = measure(m, start, request);
     let MeasureAnswer::Is {
         opening,
-        context,
+        aad,
         pairs,
-        keySection,
+        edks,
         keys,
         closing,
         tail,
@@ -212,10 +203,12 @@ fn body_at(
     if ((keyTable.len() / 6) as u64) < keys {
         return refused(refusals::KEY_TABLE_TOO_SHORT);
     }
+    let firstPair = aad + 4;
+    let firstKey = edks + 2;
     let pairEntries = 2 * pairs;
     let keyEntries = 3 * keys;
-    entries::fill_places(m, context + 4, pairEntries, pairTable);
-    entries::fill_places(m, keySection + 2, keyEntries, keyTable);
+    entries::fill_places(m, firstPair, pairEntries, pairTable);
+    entries::fill_places(m, firstKey, keyEntries, keyTable);
     accepted(opening, pairs, keys, closing, tail)
 }
 

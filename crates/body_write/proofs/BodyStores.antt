@@ -1,8 +1,8 @@
 -- Laws of the body writer's stores, and of its ways out. Assumes nothing.
-use Prim.Native.Nat.{ℕ, _+_, _-_, _≤_, _<_}
+use Prim.Native.Nat.{ℕ, _+_, _-_, _≤_}
 use native.Mathlib.Omega.{arith}
-use mathlib.Core.Path.{_≡_, refl, sym, ap, _∙_}
-use mathlib.Core.List.{List, [], _∷_, _++_, append-assoc}
+use mathlib.Core.Path.{_≡_, sym, ap, _∙_}
+use mathlib.Core.List.{List, _++_, append-assoc}
 use lib.Dec.{eqb}
 use lib.ListN.{length, take, drop, length-append}
 use borrow.Rule.Slice.PartMut.{putMid}

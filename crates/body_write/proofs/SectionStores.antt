@@ -1,7 +1,7 @@
 -- Laws of storing both sections, each into the part of the output that begins at it. Assumes nothing.
-use Prim.Native.Nat.{ℕ, _+_, _-_, _≤_, _<_}
+use Prim.Native.Nat.{ℕ, _+_, _-_, _≤_}
 use native.Mathlib.Omega.{arith}
-use mathlib.Core.Path.{_≡_, refl, sym, ap, _∙_}
+use mathlib.Core.Path.{_≡_}
 use mathlib.Core.List.{List, _++_}
 use lib.ListN.{length, take, drop, length-append, length-take, length-drop}
 use borrow.Rule.Slice.PartMut.{putMid}
@@ -9,7 +9,7 @@ use Rattle.format.specs.Lent.{writing-aad-section, writing-encrypted-data-keys-
 use Rattle.wire.specs.Stored.{stored}
 use Rattle.wire.proofs.StoreLaws.{stored-tail}
 use Rattle.checks.proofs.Writers.{chain}
-use Rattle.section_write.specs.Sizes.{aad-section-size, keys-section-size, PairsReady, KeysReady}
+use Rattle.section_write.specs.Sizes.{aad-section-size, PairsReady, KeysReady}
 use Rattle.section_write.proofs.Images.{aad-long}
 use Rattle.body_write.specs.Ready.{SectionsReady}
 

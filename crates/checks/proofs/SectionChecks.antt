@@ -5,16 +5,15 @@ use native.Mathlib.Nat.{add-zero}
 use native.Mathlib.Omega.{arith}
 use mathlib.Core.Path.{_≡_, refl, sym, ap, _∙_}
 use mathlib.Core.Option.{none}
-use mathlib.Core.Bool.{true}
 use mathlib.Core.List.{List, [], _∷_, _++_}
 use lib.Dec.{leb, ltb}
 use lib.ListN.{length}
 use borrow.Author.Tests.{eqb-true, ltb-true, lt-ltb, le-ltb}
 use Rattle.format.specs.Serialize.{sum, images, every, entry-length}
-use Rattle.format.specs.Fields.{Pair, pair-parts, key-parts}
+use Rattle.format.specs.Fields.{pair-parts, key-parts}
 use Rattle.format.specs.Context.{pair-length, linear-length}
 use Rattle.format.specs.Checks.{Check, check, first, each, count-checks, pair-checks, key-checks, pairs-checks, keys-checks}
-use Rattle.format.specs.Lent.{pair-in, key-in, pairs-in, keys-in, places, in-text, table-checks, writing-aad-section, writing-encrypted-data-keys-section}
+use Rattle.format.specs.Lent.{pair-in, key-in, pairs-in, keys-in, places, table-checks, writing-aad-section, writing-encrypted-data-keys-section}
 use Rattle.format.proofs.Firsts.{holds}
 use Rattle.wire.specs.Codes.{because}
 use Rattle.wire.specs.declared.Refusal.{Refusal}
@@ -23,7 +22,7 @@ use Rattle.checks.specs.Table.{parts-in, short, numbers-checks, entries-
 use Rattle.checks.specs.declared.Checked.{Checked}
 use Rattle.checks.specs.declared.Checked.the-variants.{Passes, Fails}
 use Rattle.checks.proofs.Items.{items-length, sum-of-images}
-use Rattle.checks.proofs.Stages.{first-pass, first-stop, first-cong, stage-passes, stage-fails, stage-none, front, back}
+use Rattle.checks.proofs.Stages.{first-pass, first-stop, first-cong, stage-passes, stage-fails, front, back}
 use Rattle.checks.proofs.Parts.{passed, in-fours, in-sixes, parts-size, parts-short}
 
 -- 26 and 27 of the numbers are those of the items

@@ -1,10 +1,10 @@
 -- Laws of the search for a key in the index. Assumes nothing.
-use Prim.Native.Nat.{ℕ, suc, _+_, _*_, _≤_, _<_}
+use Prim.Native.Nat.{ℕ, _+_, _*_, _≤_, _<_}
 use native.Mathlib.Nat.{zero-add}
 use native.Mathlib.Numerals.{add-one}
 use native.Mathlib.Omega.{arith}
-use mathlib.Core.Path.{_≡_, refl, sym, ap, subst, _∙_}
-use mathlib.Core.Bool.{Bool, true, false, not}
+use mathlib.Core.Path.{_≡_, refl, sym, subst, _∙_}
+use mathlib.Core.Bool.{Bool, true, false}
 use mathlib.Core.List.{List, [], _∷_, _++_}
 use lib.ListN.{length, getD}
 use Rattle.format.specs.Checks.{first, each, pair-checks}
@@ -12,7 +12,7 @@ use Rattle.format.specs.Lent.{items, part-in, pair-in, bytes-at}
 use Rattle.wire.specs.Order.{compare-bytes}
 use Rattle.wire.specs.declared.Refusal.{Refusal}
 use Rattle.wire.specs.declared.Order.{Order}
-use Rattle.index.specs.Index.{Index, Between, Sought, Shifted}
+use Rattle.index.specs.Index.{Sought, Shifted}
 use Rattle.index.specs.declared.Spot.{Spot}
 use Rattle.index.specs.declared.Spot.the-variants.{Found, At}
 use Rattle.index.proofs.Bracket.{Bracket, mid-room, mid-good}

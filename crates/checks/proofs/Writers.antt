@@ -1,15 +1,13 @@
 -- Laws of the ways out of a writer, and of stores one behind another. Assumes nothing.
 use Prim.Native.Nat.{ℕ, _+_, _≤_, _<_}
 use native.Mathlib.Nat.{zero-add}
-use native.Mathlib.Omega.{arith}
-use mathlib.Core.Path.{_≡_, refl, sym, ap, _∙_}
-use mathlib.Core.Option.{Option, none, some}
-use mathlib.Core.List.{List, [], _∷_, _++_}
-use lib.Dec.{leb}
+use mathlib.Core.Path.{_≡_, ap, _∙_}
+use mathlib.Core.Option.{none, some}
+use mathlib.Core.List.{List, [], _++_}
 use lib.ListN.{length, take, drop}
 use lib.Seq.{take-length}
 use borrow.Author.Tests.{le-leb, lt-leb}
-use Rattle.format.specs.Checks.{Check, check, first}
+use Rattle.format.specs.Checks.{first}
 use Rattle.format.specs.Lent.{Writing, refusal-of, filled}
 use Rattle.wire.specs.Codes.{because}
 use Rattle.wire.specs.Stored.{stored}

@@ -1,7 +1,7 @@
 -- A lent table in its numbers, which is how the code tests and measures it: the parts' lengths are there before their bytes are
 -- looked at. Assumes nothing.
 use mathlib.Core.Path.{_≡_}
-use mathlib.Core.Bool.{Bool, true, false}
+use mathlib.Core.Bool.{Bool, true}
 use mathlib.Core.List.{List, [], _∷_, _++_}
 use Prim.Native.Nat.{ℕ, _+_, _/_, _%_, _≤_}
 use lib.Dec.{leb}

@@ -29,7 +29,7 @@ use Rattle.entries.proofs.Answers.{next-got, next-no}
 use Rattle.entries.proofs.Items.{reach}
 use Rattle.entries.proofs.Walk.{Walk, walk-start, walk-end, walk-stop, walk-more}
 use Rattle.pair_index.specs.Index.{Index, Ready, Added}
-use Rattle.pair_index.proofs.Growing.{index-start}
+use Rattle.pair_index.proofs.SeenLaws.{index-start}
 use Rattle.context.specs.Stepping.{Onward, Grown, After, Stepped}
 use Rattle.context.proofs.Known.{pair-tidy, pair-known, pair-kind, forward, here-size}
 

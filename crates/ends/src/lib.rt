@@ -188,14 +188,10 @@ fn read_closing_v1(m: &[u8], s: u64, contentType: u64) -> ClosingAnswer
     ensures { λ r. ⌜ r ≡ closing-of (at (read-closing-of true contentType) (now (m .entry)) s) ⌝ }
 {
     let x = reading::read_u32(m, s);
-    let Number::Is {
-        value: reserved,
-        tail: iv,
-    } = x
-    else {
+    let Number::Is { value, tail: iv } = x else {
         return ClosingAnswer::Not(x.refusal());
     };
-    if reserved != 0 {
+    if value != 0 {
         return no_closing(refusals::RESERVED_BYTES);
     }
     let y = reading::read_u8(m, iv);

@@ -1,4 +1,4 @@
-// A request in numbers. Every number asks for something: one that names nothing asks for the stricter reading.
+// A request in numbers. Every number asks for something.
 use request::Max;
 use request::Mode;
 use request::Request;
@@ -19,7 +19,7 @@ pub fn which_asked(which: u8) -> Which
     Which::V2Only
 }
 
-// 0: tolerant; any other: strict.
+// 0: tolerant; any other: strict, the stricter reading for a number that names no mode.
 pub fn mode_asked(mode: u8) -> Mode
     ensures { λ r. ⌜ r ≡ mode-asked mode ⌝ }
 {

@@ -1,3 +1,1 @@
-pub mod Seeking
-pub mod Moved
-pub mod Growing
+pub mod SeenLaws

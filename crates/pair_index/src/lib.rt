@@ -1,51 +1,36 @@
 // An ordered index of the keys of pairs, so that a key that was seen before is found by halving. The index holds, in the
 // order of the keys, how far behind the first pair each pair stands.
+use index::Spot;
+use index::insert;
+use index::last;
+use index::number;
 use wire::Order;
 use wire::comparing;
 ghost use mathlib.Core.Path.{_≡_};
-ghost use Prim.Native.Nat.{_+_, _-_, _≤_, _<_};
-ghost use lib.ListN.{length};
+ghost use Prim.Native.Nat.{_+_, _≤_, _<_};
+ghost use lib.ListN.{length, getD};
 ghost use Rattle.format.specs.Lent.{bytes-at};
 ghost use Rattle.wire.specs.Order.{compare-bytes};
-ghost use Rattle.pair_index.specs.Index.{key-of, Index, Readable, Sought, Shifted, Ready, Added};
-
-// Where a key stands in the index: it is there, or it belongs at a place.
-pub enum Spot {
-    Found,
-    At(usize),
-}
-
-fn wide(x: u16) -> u64
-    ensures { λ r. ⌜ (r ≡ x) × (r < 65536) ⌝ }
-{
-    x as u64
-}
+ghost use Rattle.index.specs.Index.{Sought};
+ghost use Rattle.pair_index.specs.Index.{key-of, KeyInside, first-pairs, Index, Ready, Added};
 
 // Compares the key at place r of the index with the key that stands at `key`.
 fn probe(m: &[u8], first: u64, s: &[u16], r: usize, key: u64, len: u64) -> Order
-    requires { ⌜ Readable (now m) first (now s) r × (key + len ≤ length (now m)) × (first ≤ length (now m)) × (length (now m) < 4294967296) ⌝ }
-    ensures { λ o. ⌜ o ≡ compare-bytes (key-of (now (m .entry)) first (now (s .entry)) r) (bytes-at (now (m .entry)) key len) ⌝ }
+    requires { ⌜ KeyInside (now m) first (getD (now s) r 0) × (r < length (now s)) × (key + len ≤ length (now m)) × (first ≤ length (now m)) × (length (now m) < 4294967296) ⌝ }
+    ensures { λ o. ⌜ o ≡ compare-bytes (key-of (now (m .entry)) first (getD (now (s .entry)) r 0)) (bytes-at (now (m .entry)) key len) ⌝ }
 {
-    let e = entries::known_entry(m, first + wide(s[r]));
+    let e = entries::known_entry(m, first + number(s, r) as u64);
     comparing::compare_parts(m, e.start, e.len, key, len)
 }
 
-// The number before n, or 0.
-fn before(n: usize) -> usize
-    ensures { λ r. ⌜ r < n + (1 - n) ⌝ }
-{
-    if n == 0 { 0 } else { n - 1 }
-}
-
-// Looks a key up among the n keys of the index: the last one first, so that keys that ascend take one comparison each, and
-// then by halves.
+// Looks a key up among the n keys of the index: the last one first, and then by halves.
 fn find(m: &[u8], first: u64, n: usize, s: &[u16], key: u64, len: u64) -> Spot
     requires { ⌜ Index (now m) first n (now s) × (n ≤ length (now s)) × (key + len ≤ length (now m)) × (first ≤ length (now m)) × (length (now m) < 4294967296) ⌝ }
-    ensures { λ r. ⌜ Sought (now (m .entry)) first n (now (s .entry)) (bytes-at (now (m .entry)) key len) r ⌝ }
+    ensures { λ r. ⌜ Sought (key-of (now (m .entry)) first) (first-pairs (now (m .entry)) first n) n (now (s .entry)) (bytes-at (now (m .entry)) key len) r ⌝ }
 {
     let mut lo = 0;
     let mut hi = n;
-    let mut mid = before(n);
+    let mut mid = last(n);
     while lo < hi {
         match probe(m, first, s, mid, key, len) {
             Order::Less => {
@@ -60,19 +45,6 @@ fn find(m: &[u8], first: u64, n: usize, s: &[u16], key: u64, len: u64) -> Spot
         }
     }
     Spot::At(lo)
-}
-
-// Puts x at p, and moves the numbers from p to n up.
-fn insert(s: &mut [u16], p: usize, n: usize, x: u16)
-    requires { ⌜ (p ≤ n) × (n < length (now s)) ⌝ }
-    ensures { λ _. ⌜ Shifted (now (s .entry)) (now (s .exit)) p n x ⌝ }
-{
-    let mut j = n;
-    while p < j {
-        s[j] = s[j - 1];
-        j -= 1;
-    }
-    s[p] = x;
 }
 
 // Whether one of the n pairs of the index has the key of the pair behind them, which stands at `at`. If none has, that key

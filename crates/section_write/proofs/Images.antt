@@ -1,13 +1,13 @@
 -- The images of the sections, in the numbers and the parts of their tables. Assumes nothing.
-use Prim.Native.Nat.{ℕ, _+_, _/_, _≤_}
+use Prim.Native.Nat.{ℕ, _+_, _/_}
 use native.Mathlib.Omega.{arith}
-use mathlib.Core.Path.{_≡_, refl, sym, ap, _∙_}
+use mathlib.Core.Path.{_≡_, refl, sym, _∙_}
 use mathlib.Core.Bool.{Bool, true, false, cond}
 use mathlib.Core.List.{List, [], _∷_, _++_, append-nil}
 use lib.Dec.{eqb}
 use lib.ListN.{length, length-append}
 use borrow.Author.Tests.{eqb-true, eqb-false}
-use Rattle.format.specs.Serialize.{write-uint16, write-short-length-seq, entry-length, images, sum}
+use Rattle.format.specs.Serialize.{write-uint16, write-short-length-seq, entry-length, images}
 use Rattle.format.specs.Fields.{Pair, EncryptedDataKey, pair-parts, key-parts}
 use Rattle.format.specs.Context.{linear-length, write-aad-pair, write-aad-pairs, write-aad, write-expanded-aad-section, write-aad-section}
 use Rattle.format.specs.Keys.{write-encrypted-data-key, write-encrypted-data-keys, write-encrypted-data-keys-section}

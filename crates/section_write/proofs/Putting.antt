@@ -3,8 +3,8 @@ use Prim.Native.Nat.{ℕ, _+_, _*_, _-_, _≤_, _<_}
 use native.Mathlib.Nat.{sub-zero}
 use native.Mathlib.Omega.{arith}
 use mathlib.Core.Path.{_≡_, refl, sym, ap, _∙_}
-use mathlib.Core.List.{List, [], _∷_, _++_}
-use lib.ListN.{length, getD, length-append}
+use mathlib.Core.List.{List}
+use lib.ListN.{length, getD}
 use Rattle.format.specs.Serialize.{write-short-length-seq, images, sum}
 use Rattle.format.specs.Lent.{bytes-at, items, here, part-in}
 use Rattle.format.proofs.Serialize.{length-entry}

@@ -1,0 +1,87 @@
+/* Comparing what an operation answers, and what it was lent, with what is wanted; and header H. */
+#ifndef COMPARE_H
+#define COMPARE_H
+
+#include "header.h"
+
+#include <stdio.h>
+#include <string.h>
+
+#define NUMBERS 64
+#define BYTES 128
+#define KEPT 0xEE
+#define KEPT_NUMBER 0xEEEEEEEEu
+#define COUNT(array) (sizeof(array) / sizeof(array)[0])
+
+/* how the archive lays its structs out, which the values below go round through */
+typedef char sizes[(sizeof(HeaderSection) == 32 && sizeof(HeaderPlace) == 32 && sizeof(HeaderAuth) == 56
+                    && sizeof(HeaderBody) == 120 && sizeof(HeaderWritten) == 16 && sizeof(HeaderNumbers) == 12)
+                       ? 1
+                       : -1];
+typedef char offsets[(offsetof(HeaderAuth, iv) == 24 && offsetof(HeaderAuth, tag) == 36 && offsetof(HeaderBody, tail) == 112
+                      && offsetof(HeaderNumbers, suite) == 2 && offsetof(HeaderNumbers, contentType) == 4
+                      && offsetof(HeaderNumbers, headerIvLength) == 5 && offsetof(HeaderNumbers, frameLength) == 8)
+                         ? 1
+                         : -1];
+
+static unsigned long cases, differences;
+
+static void same(const char *what, uint64_t got, uint64_t want)
+{
+    cases++;
+    if (got != want) {
+        differences++;
+        fprintf(stderr, "%s: %llu, not %llu\n", what, (unsigned long long)got, (unsigned long long)want);
+    }
+}
+
+static void same_bytes(const char *what, const void *got, const void *want, size_t n)
+{
+    same(what, (uint64_t)(memcmp(got, want, n) == 0), 1);
+}
+
+/* header H */
+static const uint8_t H[58] = {0x01, 0x80, 0x01, 0x78, 0x00, 0x01, 0x02, 0x03, 0x04, 0x05, 0x06, 0x07, 0x08, 0x09, 0x0A,
+                              0x0B, 0x0C, 0x0D, 0x0E, 0x0F, 0x00, 0x0C, 0x00, 0x01, 0x00, 0x04, 0x6C, 0x61, 0x6E, 0x67,
+                              0x00, 0x02, 0x63, 0x79, 0x00, 0x01, 0x00, 0x02, 0x70, 0x31, 0x00, 0x01, 0x61, 0x00, 0x03,
+                              0xAA, 0xBB, 0xCC, 0x02, 0x00, 0x00, 0x00, 0x00, 0x0C, 0x00, 0x00, 0x10, 0x00};
+static const uint32_t H_pairs[4] = {26, 4, 32, 2};
+static const uint32_t H_keys[6] = {38, 2, 42, 1, 45, 3};
+
+/* what is lent to be changed, filled anew before each call */
+static uint32_t pairs[NUMBERS], keys[NUMBERS], fresh_numbers[NUMBERS];
+static uint8_t out[BYTES], fresh_bytes[BYTES];
+
+static void fresh(void)
+{
+    size_t i;
+    for (i = 0; i < NUMBERS; i++) {
+        fresh_numbers[i] = KEPT_NUMBER;
+    }
+    memset(fresh_bytes, KEPT, sizeof fresh_bytes);
+    memcpy(pairs, fresh_numbers, sizeof pairs);
+    memcpy(keys, fresh_numbers, sizeof keys);
+    memcpy(out, fresh_bytes, sizeof out);
+}
+
+/* a table that begins with n numbers, and keeps the others */
+static void table_is(const char *what, const uint32_t *table, const uint32_t *front, size_t n)
+{
+    same_bytes(what, table, front, n * sizeof *table);
+    same_bytes(what, table + n, fresh_numbers + n, (NUMBERS - n) * sizeof *table);
+}
+
+/* an output that begins with n bytes, and keeps the others */
+static void output_is(const char *what, const uint8_t *front, size_t n)
+{
+    same_bytes(what, out, front, n);
+    same_bytes(what, out + n, fresh_bytes + n, BYTES - n);
+}
+
+static void written_is(const char *what, HeaderWritten w, uint64_t number, uint64_t length)
+{
+    same(what, w.number, number);
+    same(what, w.length, length);
+}
+
+#endif

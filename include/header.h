@@ -1,0 +1,193 @@
+/*
+ * Message headers of the caption encoder, for host programs in C and C++: reads and writes header bodies, their two sections
+ * and authentication records. Link target/staticlib/libheader_c.a, which `rt staticlib header_c` writes.
+ *
+ * How bytes are lent. A pointer and a length together are one lent part: `const uint8_t *message, size_t message_len`. The length
+ * counts elements: bytes of a message, numbers of a table. No pointer is null, and each has its type's alignment; a part of length
+ * 0 takes any such pointer. What a function may change (`out`, `table`, `pairs`, `keys` without `const`) shares no byte
+ * with anything else that the same call is lent. Nothing is kept after a call, and nothing is allocated. Calls share no state, so
+ * that several threads may call at once.
+ *
+ * What is answered. Every answer is a struct by value. Its `number` is 0 where the input was accepted; otherwise it is the
+ * refusal, one of `enum HeaderRefusal`, and everything else in the struct is 0 but for `position`, which is the place wanted for
+ * HEADER_SHORTAGE. On a refusal every lent byte and number is as it was. No input is outside what a function takes: each call
+ * on parts lent as above returns, with exactly one answer.
+ *
+ * Places are counted from the first byte of the message or text. `tail` is the place of the first byte behind what was read.
+ * Names are those of the AWS Encryption SDK's message format.
+ */
+#ifndef HEADER_H
+#define HEADER_H
+
+#include <stddef.h>
+#include <stdint.h>
+
+#ifdef __cplusplus
+extern "C" {
+#endif
+
+enum HeaderRefusal {
+    HEADER_ACCEPTED = 0,                /* no refusal */
+    HEADER_NOT_ADDRESSABLE = 1,         /* the message's length or the start is above 4,294,967,295 */
+    HEADER_SHORTAGE = 2,                /* bytes are missing: the message would have to reach `position` */
+    HEADER_VERSION = 3,                 /* the version is not 01 or 02 */
+    HEADER_OTHER_VERSION = 4,           /* the version is not the one asked for */
+    HEADER_MESSAGE_TYPE = 5,            /* the type is not 80 in version 1, or, writing, not 0 in version 2 */
+    HEADER_UNKNOWN_SUITE = 6,           /* the suite is not in the table */
+    HEADER_SUITE_OF_OTHER_VERSION = 7,  /* the suite is of the other version */
+    HEADER_COUNT_IN_EMPTY_CONTEXT = 8,  /* a context section of length 2 has a count that is not 0 */
+    HEADER_NO_COUNT_IN_CONTEXT = 9,     /* a context section of another length above 0 has the count 0 */
+    HEADER_KEY_NOT_UTF8 = 10,           /* a key of the context is not UTF-8 */
+    HEADER_VALUE_NOT_UTF8 = 11,         /* a value of the context is not UTF-8 */
+    HEADER_KEY_SEEN_BEFORE = 12,        /* a key of the context was seen before */
+    HEADER_PAIRS_TOO_LONG = 13,         /* the pairs take 65,534 bytes or more */
+    HEADER_CONTEXT_LENGTH = 14,         /* the pairs do not end where the section's stored length says */
+    HEADER_TOO_MANY_KEYS = 15,          /* the count of keys is above the maximum */
+    HEADER_PROVIDER_ID_NOT_UTF8 = 16,   /* a key provider ID is not UTF-8 */
+    HEADER_CONTENT_TYPE = 17,           /* the content type is not 01 or 02 */
+    HEADER_RESERVED_BYTES = 18,         /* the reserved bytes are not 00 00 00 00 */
+    HEADER_IV_LENGTH = 19,              /* the IV length is not 12; writing version 2, it is not 0 */
+    HEADER_FRAME_LENGTH = 20,           /* framed content with frame length 0, or non-framed content with another */
+    HEADER_OLD_EMPTY_CONTEXT = 21,      /* strict: an empty context in its old form, 00 02 00 00 */
+    HEADER_PAIR_TABLE_TOO_SHORT = 22,   /* the pair table holds fewer than four numbers a pair */
+    HEADER_KEY_TABLE_TOO_SHORT = 23,    /* the key table holds fewer than six numbers a key */
+    HEADER_ID_LENGTH = 24,              /* the message ID is not 16 bytes in version 1, or 32 in version 2 */
+    HEADER_SUITE_DATA_LENGTH = 25,      /* the suite data are not 0 bytes in version 1, or 32 in version 2 */
+    HEADER_TABLE_OR_PLACE = 26,         /* a table is not in fours or sixes, or a place lies outside the lent text */
+    HEADER_COUNT_OR_PART_TOO_LONG = 27, /* more than 65,535 pairs or keys, or a part above 65,535 bytes */
+    HEADER_OUTPUT_TOO_SHORT = 28,       /* what is to be written is longer than the output */
+    HEADER_NOT_FOUND = 29,              /* no pair has the key */
+    HEADER_TAG_LENGTH = 30              /* the tag is not 16 bytes */
+};
+
+/* What readers are asked, as numbers. Every number asks for something; a reader's comment says what others than these ask. */
+enum HeaderWhich { HEADER_EITHER = 0, HEADER_V1_ONLY = 1, HEADER_V2_ONLY = 2 };
+enum HeaderMode { HEADER_TOLERANT = 0, HEADER_STRICT = 1 };
+enum HeaderMax { HEADER_NO_MAX = 0, HEADER_AT_MOST = 1 };
+
+/* A section that was read. 32 bytes. */
+typedef struct HeaderSection {
+    uint64_t number;
+    uint64_t position;
+    uint64_t count; /* how many pairs or keys */
+    uint64_t tail;
+} HeaderSection;
+
+/* A value that was found. 32 bytes. */
+typedef struct HeaderPlace {
+    uint64_t number;
+    uint64_t position;
+    uint64_t start; /* the place of its first byte in the message; an empty value has one too */
+    uint64_t len;
+} HeaderPlace;
+
+/* An authentication record that was read. 56 bytes. */
+typedef struct HeaderAuth {
+    uint64_t number;
+    uint64_t position;
+    uint64_t tail;
+    uint8_t iv[12]; /* all 00 in version 2, which stores none */
+    uint8_t tag[16];
+} HeaderAuth;
+
+/* A body that was read. 120 bytes. messageType, headerIvLength, suiteData and suiteDataLen are 0 where the version lacks them. */
+typedef struct HeaderBody {
+    uint64_t number;
+    uint64_t position;
+    uint64_t version; /* 1 or 2 */
+    uint64_t messageType;
+    uint64_t suite;
+    uint64_t messageId; /* the place of the message ID's first byte */
+    uint64_t messageIdLen;
+    uint64_t pairs; /* how many pairs of the encryption context */
+    uint64_t keys;  /* how many encrypted data keys */
+    uint64_t contentType; /* 1 non-framed, 2 framed */
+    uint64_t headerIvLength;
+    uint64_t frameLength;
+    uint64_t suiteData; /* the place of the suite data's first byte */
+    uint64_t suiteDataLen;
+    uint64_t tail;
+} HeaderBody;
+
+/* What a writer wrote. 16 bytes. */
+typedef struct HeaderWritten {
+    uint64_t number;
+    uint64_t length; /* how many bytes, from the first byte of the output on */
+} HeaderWritten;
+
+/* The numbers that the body writer is handed, each as wide as it is stored. 12 bytes. */
+typedef struct HeaderNumbers {
+    uint8_t version;
+    uint8_t messageType; /* 0x80 in version 1, 0 in version 2 */
+    uint16_t suite;
+    uint8_t contentType;
+    uint8_t headerIvLength; /* 12 in version 1, 0 in version 2 */
+    uint32_t frameLength;
+} HeaderNumbers;
+
+/* READING. A reader changes its tables, and nothing else, and those only where it accepts. */
+
+/*
+ * Reads the header body at `start`.
+ * which: HEADER_EITHER; HEADER_V1_ONLY; any other number: version 2 only. Only HEADER_EITHER tests HEADER_FRAME_LENGTH.
+ * mode: HEADER_TOLERANT; any other number: strict, which refuses an empty context in its old form.
+ * has_max: HEADER_NO_MAX, and `max` is not looked at; any other number: at most `max` keys.
+ * pairs, keys: accepted, they begin with four numbers for each pair (key start, key length, value start, value length) and six for
+ * each key (start and length of provider ID, of provider info and of ciphertext). The numbers behind those keep.
+ */
+HeaderBody header_read_header_body(const uint8_t *message, size_t message_len, uint64_t start, uint8_t which, uint8_t mode,
+                                   uint8_t has_max, uint64_t max, uint32_t *pairs, size_t pairs_len, uint32_t *keys,
+                                   size_t keys_len);
+
+/*
+ * The body at `start` in one number: 0 where it is accepted, else the refusal. Read as the listing program reads: either version,
+ * tolerant, no maximum, with tables of 4,096 numbers, which lie on the stack (32,768 bytes).
+ */
+uint32_t header_number(const uint8_t *message, size_t message_len, uint64_t start);
+
+/* The same body's tail where it is accepted, else the refusal's position. */
+uint64_t header_position(const uint8_t *message, size_t message_len, uint64_t start);
+
+/* Reads the context section at `start`; mode and table as `mode` and `pairs` of header_read_header_body. */
+HeaderSection header_read_aad_section(const uint8_t *message, size_t message_len, uint64_t start, uint8_t mode, uint32_t *table,
+                                      size_t table_len);
+
+/* Reads the section of encrypted data keys at `start`; has_max, max and table as for header_read_header_body (`keys`). */
+HeaderSection header_read_encrypted_data_keys_section(const uint8_t *message, size_t message_len, uint64_t start,
+                                                      uint8_t has_max, uint64_t max, uint32_t *table, size_t table_len);
+
+/* Finds the value of a key in the context section at `start`, read tolerantly. Changes nothing. */
+HeaderPlace header_find_value(const uint8_t *message, size_t message_len, uint64_t start, const uint8_t *key, size_t key_len);
+
+/* Reads the authentication record of a suite at `start`. Changes nothing. */
+HeaderAuth header_read_header_auth_tag(const uint8_t *message, size_t message_len, uint64_t start, uint16_t suite);
+
+/*
+ * WRITING. A writer changes `out`, and nothing else, and that only where it accepts: the bytes from the first on, `length` of
+ * them; the bytes behind those keep. A table holds places of `text`, in the order that readers fill: what a reader filled can be
+ * handed to a writer, its message as the text. The numbers of a table are all taken: lend just four a pair, or six a key.
+ */
+
+/* Writes the context section of the pairs in the table. */
+HeaderWritten header_write_aad_section(const uint8_t *text, size_t text_len, const uint32_t *pairs, size_t pairs_len,
+                                       uint8_t *out, size_t out_len);
+
+/* Writes the section of the encrypted data keys in the table. */
+HeaderWritten header_write_encrypted_data_keys_section(const uint8_t *text, size_t text_len, const uint32_t *keys,
+                                                       size_t keys_len, uint8_t *out, size_t out_len);
+
+/* Writes the authentication record of a suite. Version 2 stores no IV: one of 12 bytes is asked for, and its bytes are ignored. */
+HeaderWritten header_write_header_auth_tag(uint16_t suite, const uint8_t *iv, size_t iv_len, const uint8_t *tag, size_t tag_len,
+                                           uint8_t *out, size_t out_len);
+
+/* Writes a header body. Pairs and keys have their places in one text; message ID and suite data are bytes of their own. */
+HeaderWritten header_write_header_body(HeaderNumbers numbers, const uint8_t *message_id, size_t message_id_len,
+                                       const uint8_t *suite_data, size_t suite_data_len, const uint8_t *text, size_t text_len,
+                                       const uint32_t *pairs, size_t pairs_len, const uint32_t *keys, size_t keys_len,
+                                       uint8_t *out, size_t out_len);
+
+#ifdef __cplusplus
+}
+#endif
+
+#endif
