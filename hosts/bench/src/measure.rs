@@ -18,6 +18,10 @@ const ROUNDS: usize = 201;
 /// Long against the clock's grain, short against a time slice: few rounds
 /// are interrupted, and the median leaves those out.
 const ROUND: Duration = Duration::from_micros(100);
+/// Calls that take long, as those of thousands of pairs, get fewer rounds:
+/// an odd number again, once this time is over.
+const ENOUGH: Duration = Duration::from_secs(2);
+const FEWEST: usize = 5;
 
 /// The functions are given the number of the call, to pick an input by.
 /// Rounds alternate, so that whatever slows the machine slows both.
@@ -25,11 +29,16 @@ pub fn versus<A, B>(ours: impl FnMut(usize) -> A, theirs: impl FnMut(usize) -> B
     let mut ours = Timed::new(ours);
     let mut theirs = Timed::new(theirs);
     let mut rounds = [(); 3].map(|_| Vec::with_capacity(ROUNDS));
+    let begin = Instant::now();
     for round in 0..ROUNDS {
         let (ours, theirs) = (ours.round(round), theirs.round(round));
         rounds[0].push(ours);
         rounds[1].push(theirs);
         rounds[2].push(theirs / ours);
+        let done = round + 1;
+        if done >= FEWEST && done % 2 == 1 && begin.elapsed() > ENOUGH {
+            break;
+        }
     }
     let [ours, theirs, ratio] = rounds.map(median);
     Times {

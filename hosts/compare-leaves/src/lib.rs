@@ -3,4 +3,5 @@
 #![forbid(unsafe_code)]
 
 pub mod records;
-pub mod report;
+
+pub use report;

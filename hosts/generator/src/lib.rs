@@ -11,6 +11,7 @@ pub mod body_write_cases;
 pub mod fields;
 pub mod image;
 pub mod key_cases;
+pub mod many;
 pub mod random;
 pub mod section_cases;
 pub mod sections;

@@ -1,5 +1,8 @@
 //! The groups of rows. A new one is a file here and a line in `GROUPS`.
 
+mod bodies;
+mod context;
+mod keys;
 mod leaves;
 
 use crate::table::Table;
@@ -7,8 +10,25 @@ use crate::table::Table;
 /// Name, what it is of, and the rows.
 pub type Group = (&'static str, &'static str, fn(&mut Table));
 
-pub const GROUPS: &[Group] = &[(
-    "leaves",
-    "UTF-8, entries, equality and order of parts",
-    leaves::rows,
-)];
+pub const GROUPS: &[Group] = &[
+    (
+        "leaves",
+        "UTF-8, entries, equality and order of parts",
+        leaves::rows,
+    ),
+    (
+        "context",
+        "context sections read and written, by their pairs",
+        context::rows,
+    ),
+    (
+        "keys",
+        "key sections read and written, by their keys",
+        keys::rows,
+    ),
+    (
+        "bodies",
+        "header bodies read and written, by their sections",
+        bodies::rows,
+    ),
+];

@@ -4,11 +4,10 @@
 
 #[path = "../common/mod.rs"]
 mod common;
-mod coverage;
 mod reads;
 mod writes;
 
-use coverage::Coverage;
+use report::{Coverage, LISTED};
 
 #[test]
 fn every_operation_on_generated_requests() {
@@ -23,5 +22,6 @@ fn every_operation_on_generated_requests() {
         + writes::auth(&mut coverage);
     coverage.print();
     coverage.assert_complete();
+    assert_eq!(coverage.operations(), LISTED.len());
     common::report("generated requests", compared);
 }

@@ -2,13 +2,13 @@
 
 use crate::common::plain::{self, Buffer, No, Part};
 use crate::common::{key_parts, mode, pair_parts, parts};
-use crate::coverage::Coverage;
 use generator::auth_cases::auth_case;
 use generator::body_cases::{body_case, BodyCase, Reader};
 use generator::key_cases::key_case;
 use generator::section_cases::{section_case, SectionCase};
 use generator::Expected;
 use reference::*;
+use report::Coverage;
 
 /// The answer is the one the damage decides, if it decides one.
 pub fn as_expected<T: std::fmt::Debug>(seed: u64, answer: &Result<T, Refusal>, expected: Expected) {
@@ -21,6 +21,11 @@ pub fn as_expected<T: std::fmt::Debug>(seed: u64, answer: &Result<T, Refusal>, e
         (Expected::Refused(..), Ok(_)) => false,
     };
     assert!(agrees, "seed {seed}: expected {expected:?}, got {answer:?}");
+}
+
+/// The refusal's number, 0 where there is none.
+pub fn number<T>(answer: &Result<T, Refusal>) -> u32 {
+    answer.as_ref().err().map_or(0, |refusal| refusal.number)
 }
 
 fn no<T>(answer: &Result<T, Refusal>) -> Option<No> {
@@ -52,7 +57,7 @@ pub fn sections(coverage: &mut Coverage) -> u64 {
         };
         let mut table = case.table.clone();
         let answer = read_aad_section(&case.message, case.start, mode(case.strict), &mut table);
-        coverage.count(operation, &answer);
+        coverage.count(operation, number(&answer));
         as_expected(seed, &answer, case.expected);
 
         let plain = Buffer::new(&case.message, case.start).and_then(|mut buffer| {
@@ -88,7 +93,7 @@ pub fn sections(coverage: &mut Coverage) -> u64 {
 
 fn finds(seed: u64, case: &SectionCase, coverage: &mut Coverage) {
     let answer = find(&case.message, case.start, &case.asked);
-    coverage.count("find", &answer);
+    coverage.count("find", number(&answer));
     as_expected(seed, &answer, case.find_expected);
     let part = find_part(&case.message, case.start, &case.asked);
     let plain = Buffer::new(&case.message, case.start).and_then(|mut buffer| {
@@ -130,7 +135,7 @@ pub fn keys(coverage: &mut Coverage) -> u64 {
         let mut table = case.table.clone();
         let answer =
             read_encrypted_data_keys_section(&case.message, case.start, case.max, &mut table);
-        coverage.count("read keys", &answer);
+        coverage.count("read keys", number(&answer));
         as_expected(seed, &answer, case.expected);
 
         let plain = Buffer::new(&case.message, case.start).and_then(|mut buffer| {
@@ -191,7 +196,7 @@ fn body(seed: u64, case: &BodyCase, coverage: &mut Coverage) {
         &mut pairs,
         &mut keys,
     );
-    coverage.count(operation, &answer);
+    coverage.count(operation, number(&answer));
     as_expected(seed, &answer, case.expected);
 
     let plain = Buffer::new(&case.message, case.start).and_then(|mut buffer| {
@@ -276,7 +281,7 @@ pub fn auth(coverage: &mut Coverage) -> u64 {
     for seed in 0..SEEDS {
         let case = auth_case(seed);
         let answer = read_header_auth_tag(&case.message, case.start, case.suite);
-        coverage.count("read auth", &answer);
+        coverage.count("read auth", number(&answer));
         as_expected(seed, &answer, case.expected);
         assert_ne!(case.expected, Expected::Open);
         if let Ok(read) = answer {

@@ -1,14 +1,14 @@
 //! The writers on generated requests.
 
 use crate::common::plain::{self, No};
-use crate::coverage::Coverage;
-use crate::reads::as_expected;
+use crate::reads::{as_expected, number};
 use generator::auth_cases::auth_write_case;
 use generator::body_write_cases::body_write_case;
 use generator::fields::Fields;
 use generator::write_cases::{write_keys_case, write_section_case, WriteCase};
 use generator::Expected;
 use reference::*;
+use report::Coverage;
 
 /// The output begins with the image and keeps its bytes beyond; refused, it
 /// keeps them all. The second opinion's image is the same.
@@ -46,7 +46,7 @@ fn section(
 ) {
     let mut out = case.out.clone();
     let answer = write(&mut out);
-    coverage.count(operation, &answer);
+    coverage.count(operation, number(&answer));
     as_expected(seed, &answer, case.expected);
     assert_ne!(case.expected, Expected::Open);
     if answer.is_ok() {
@@ -116,7 +116,7 @@ pub fn bodies(coverage: &mut Coverage) -> u64 {
             &lent.keys,
             &mut out,
         );
-        coverage.count("write body", &answer);
+        coverage.count("write body", number(&answer));
         as_expected(seed, &answer, case.expected);
         assert_ne!(case.expected, Expected::Open);
         if answer.is_ok() {
@@ -141,7 +141,7 @@ pub fn auth(coverage: &mut Coverage) -> u64 {
         let case = auth_write_case(seed);
         let mut out = case.out.clone();
         let answer = write_header_auth_tag(case.suite, &case.iv, &case.tag, &mut out);
-        coverage.count("write auth", &answer);
+        coverage.count("write auth", number(&answer));
         as_expected(seed, &answer, case.expected);
         match answer {
             Ok(length) => {

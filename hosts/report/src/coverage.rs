@@ -1,10 +1,10 @@
 //! Counts of each refusal by operation.
 
-use reference::Refusal;
+use crate::say;
 use std::collections::BTreeMap;
 
 /// The refusals each operation lists.
-const LISTED: [(&str, &[u32]); 15] = [
+pub const LISTED: [(&str, &[u32]); 15] = [
     (
         "read section tolerant",
         &[1, 2, 8, 9, 10, 11, 12, 13, 14, 22],
@@ -68,38 +68,38 @@ const LISTED: [(&str, &[u32]); 15] = [
 pub struct Coverage(BTreeMap<&'static str, [u64; 31]>);
 
 impl Coverage {
-    pub fn count<T>(&mut self, operation: &'static str, answer: &Result<T, Refusal>) {
-        let row = self.0.entry(operation).or_insert([0; 31]);
-        let column = answer
-            .as_ref()
-            .err()
-            .map_or(0, |refusal| refusal.number as usize);
-        row[column] += 1;
+    /// An answer of an operation: the refusal's number, or 0.
+    pub fn count(&mut self, operation: &'static str, number: u32) {
+        self.0.entry(operation).or_insert([0; 31])[number as usize] += 1;
+    }
+
+    /// How many operations have answered.
+    pub fn operations(&self) -> usize {
+        self.0.len()
     }
 
     /// One line an operation: how often each refusal came about.
     pub fn print(&self) {
-        for (operation, _) in LISTED {
-            let row = self.0.get(operation).copied().unwrap_or([0; 31]);
-            print!("{operation:22} accepted {}", row[0]);
-            for (number, count) in row
-                .iter()
-                .enumerate()
-                .skip(1)
-                .filter(|(_, count)| **count > 0)
-            {
-                print!("  {number}:{count}");
+        for (operation, row) in &self.0 {
+            let mut line = format!("{operation:22} accepted {}", row[0]);
+            for (number, count) in row.iter().enumerate().skip(1) {
+                if *count > 0 {
+                    line.push_str(&format!("  {number}:{count}"));
+                }
             }
-            println!();
+            say(&line);
         }
     }
 
-    /// Every operation accepted something, gave each refusal it lists, and
-    /// gave no other.
+    /// Every operation that answered accepted something, gave each refusal it
+    /// lists, and gave no other.
     pub fn assert_complete(&self) {
-        assert_eq!(self.0.len(), LISTED.len());
-        for (operation, listed) in LISTED {
-            let row = self.0[operation];
+        for (operation, row) in &self.0 {
+            let listed = LISTED
+                .iter()
+                .find(|(name, _)| name == operation)
+                .unwrap_or_else(|| panic!("{operation} has no list"))
+                .1;
             for (number, &count) in row.iter().enumerate() {
                 let wanted = number == 0 || listed.contains(&(number as u32));
                 assert_eq!(

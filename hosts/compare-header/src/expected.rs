@@ -1,0 +1,32 @@
+//! Answers held against what a generated request decides.
+
+use crate::numbers::Answer;
+use generator::Expected;
+use std::fmt::Debug;
+
+/// The answer is the one the damage decides, if it decides one.
+pub fn as_expected<T: Debug>(seed: u64, answer: &Answer<T>, expected: Expected) {
+    let agrees = match (expected, answer) {
+        (Expected::Open, _) => true,
+        (Expected::Accepted, answer) => answer.is_ok(),
+        (Expected::Refused(number, position), Err(refusal)) => {
+            (refusal.number, refusal.position) == (number, position)
+        }
+        (Expected::Refused(..), Ok(_)) => false,
+    };
+    assert!(agrees, "seed {seed}: expected {expected:?}, got {answer:?}");
+}
+
+/// The parts at a table's places, in order, are these.
+pub fn parts_are<'a>(
+    seed: u64,
+    bytes: &[u8],
+    table: &[u32],
+    wanted: impl IntoIterator<Item = &'a [u8]>,
+) {
+    let got = table.chunks_exact(2).map(|place| {
+        let start = place[0] as usize;
+        &bytes[start..start + place[1] as usize]
+    });
+    assert!(got.eq(wanted), "seed {seed}: parts");
+}

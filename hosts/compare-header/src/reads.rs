@@ -1,0 +1,150 @@
+//! One request to read, handed to both.
+
+use crate::guarded::Guarded;
+use crate::numbers::{self, auth, body, place, refused, section, Answer};
+use header::{AuthRecord, Body, Mode, Place, Request, Section};
+use std::fmt::Debug;
+
+/// A message and a start as a failure shows them.
+fn shown(message: &[u8], start: u64) -> String {
+    let first: Vec<String> = message
+        .iter()
+        .take(600)
+        .map(|byte| format!("{byte:02X}"))
+        .collect();
+    format!(
+        "start {start} of {} bytes: {}",
+        message.len(),
+        first.join(" ")
+    )
+}
+
+fn same<T: PartialEq + Debug>(
+    ours: &Answer<T>,
+    theirs: &Answer<T>,
+    what: impl Debug,
+    message: &[u8],
+    start: u64,
+) {
+    assert!(
+        ours == theirs,
+        "{what:?}: {ours:?} against {theirs:?}, {}",
+        shown(message, start)
+    );
+}
+
+/// A context section: the answer, and the table afterwards.
+pub fn read_aad_section(
+    message: &[u8],
+    start: u64,
+    mode: Mode,
+    table: &[u32],
+) -> (Answer<Section>, Vec<u32>) {
+    let (mut ours, mut theirs) = (Guarded::new(table), table.to_vec());
+    let answer = header::read_aad_section(message, start, mode, ours.lend());
+    let wanted = reference::read_aad_section(message, start, numbers::mode(mode), &mut theirs)
+        .map(|read| section(read.pairs, read.tail))
+        .map_err(refused);
+    same(&answer, &wanted, (mode, table.len()), message, start);
+    ours.assert_holds(&theirs, "pair table");
+    (answer, theirs)
+}
+
+/// A key section: the answer, and the table afterwards.
+pub fn read_encrypted_data_keys_section(
+    message: &[u8],
+    start: u64,
+    max: Option<u64>,
+    table: &[u32],
+) -> (Answer<Section>, Vec<u32>) {
+    let (mut ours, mut theirs) = (Guarded::new(table), table.to_vec());
+    let answer = header::read_encrypted_data_keys_section(message, start, max, ours.lend());
+    let wanted = reference::read_encrypted_data_keys_section(message, start, max, &mut theirs)
+        .map(|read| section(read.keys, read.tail))
+        .map_err(refused);
+    same(&answer, &wanted, (max, table.len()), message, start);
+    ours.assert_holds(&theirs, "key table");
+    (answer, theirs)
+}
+
+/// Both tables of a body.
+pub struct Tables {
+    pub pairs: Vec<u32>,
+    pub keys: Vec<u32>,
+}
+
+/// A body: the answer, and both tables afterwards.
+pub fn read_header_body(
+    message: &[u8],
+    start: u64,
+    request: Request,
+    pairs: &[u32],
+    keys: &[u32],
+) -> (Answer<Body>, Tables) {
+    let (mut our_pairs, mut our_keys) = (Guarded::new(pairs), Guarded::new(keys));
+    let mut tables = Tables {
+        pairs: pairs.to_vec(),
+        keys: keys.to_vec(),
+    };
+    let answer =
+        header::read_header_body(message, start, request, our_pairs.lend(), our_keys.lend());
+    let wanted = reference::read_header_body(
+        message,
+        start,
+        numbers::which(request.which),
+        numbers::mode(request.mode),
+        request.max,
+        &mut tables.pairs,
+        &mut tables.keys,
+    )
+    .map(body)
+    .map_err(refused);
+    let asked = (request, pairs.len(), keys.len());
+    same(&answer, &wanted, asked, message, start);
+    our_pairs.assert_holds(&tables.pairs, "pair table");
+    our_keys.assert_holds(&tables.keys, "key table");
+    (answer, tables)
+}
+
+/// An authentication record.
+pub fn read_header_auth_tag(message: &[u8], start: u64, suite: u16) -> Answer<AuthRecord> {
+    let answer = header::read_header_auth_tag(message, start, suite);
+    let wanted = reference::read_header_auth_tag(message, start, u32::from(suite))
+        .map(auth)
+        .map_err(refused);
+    same(&answer, &wanted, suite, message, start);
+    answer
+}
+
+/// A value's place, and what its companion returns: the same part, at the
+/// same place in memory.
+pub fn find_value(message: &[u8], start: u64, key: &[u8]) -> Answer<Place> {
+    let answer = header::find_value(message, start, key);
+    let wanted = reference::find(message, start, key)
+        .map(place)
+        .map_err(refused);
+    same(&answer, &wanted, key, message, start);
+    let ours = header::find_part(message, start, key);
+    let theirs = reference::find_part(message, start, key);
+    assert!(
+        ours == theirs && ours.as_ptr() == theirs.as_ptr(),
+        "{key:?}: {ours:?} against {theirs:?}, {}",
+        shown(message, start)
+    );
+    answer
+}
+
+/// The number and the position that a host is told, a call each.
+pub fn host_answer(message: &[u8], start: u64) -> (u32, u64) {
+    let ours = (
+        header::header_number(message, start),
+        header::header_position(message, start),
+    );
+    let theirs = reference::host_answer(message, start);
+    assert!(
+        ours == theirs,
+        "{ours:?} against {theirs:?}, {}",
+        shown(message, start)
+    );
+    ours
+}

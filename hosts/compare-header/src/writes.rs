@@ -1,0 +1,103 @@
+//! One request to write, handed to both.
+
+use crate::guarded::Guarded;
+use crate::numbers::{refused, wide, Answer};
+use header::{Numbers, Refusal};
+
+/// What a body writer is lent beside the output.
+#[derive(Clone, Copy, Debug)]
+pub struct BodyLent<'a> {
+    pub numbers: Numbers,
+    pub message_id: &'a [u8],
+    pub suite_data: &'a [u8],
+    pub text: &'a [u8],
+    pub pairs: &'a [u32],
+    pub keys: &'a [u32],
+}
+
+/// The answers, and the outputs afterwards; gives ours, and the output.
+fn both(
+    out: &[u8],
+    what: impl Fn() -> String,
+    ours: impl FnOnce(&mut [u8]) -> Result<usize, Refusal>,
+    theirs: impl FnOnce(&mut [u8]) -> Result<u64, reference::Refusal>,
+) -> (Answer<usize>, Vec<u8>) {
+    let (mut our_out, mut their_out) = (Guarded::new(out), out.to_vec());
+    let answer = ours(our_out.lend());
+    let wanted = theirs(&mut their_out)
+        .map(|length| length as usize)
+        .map_err(refused);
+    assert!(
+        answer == wanted,
+        "{answer:?} against {wanted:?}, output of {} bytes: {}",
+        out.len(),
+        what()
+    );
+    our_out.assert_holds(&their_out, "output");
+    (answer, their_out)
+}
+
+pub fn write_aad_section(text: &[u8], pairs: &[u32], out: &[u8]) -> (Answer<usize>, Vec<u8>) {
+    both(
+        out,
+        || format!("pairs {pairs:?} of {text:02X?}"),
+        |out| header::write_aad_section(text, pairs, out),
+        |out| reference::write_aad_section(text, pairs, out),
+    )
+}
+
+pub fn write_encrypted_data_keys_section(
+    text: &[u8],
+    keys: &[u32],
+    out: &[u8],
+) -> (Answer<usize>, Vec<u8>) {
+    both(
+        out,
+        || format!("keys {keys:?} of {text:02X?}"),
+        |out| header::write_encrypted_data_keys_section(text, keys, out),
+        |out| reference::write_encrypted_data_keys_section(text, keys, out),
+    )
+}
+
+pub fn write_header_auth_tag(
+    suite: u16,
+    iv: &[u8],
+    tag: &[u8],
+    out: &[u8],
+) -> (Answer<usize>, Vec<u8>) {
+    both(
+        out,
+        || format!("suite {suite:04X}, IV {iv:02X?}, tag {tag:02X?}"),
+        |out| header::write_header_auth_tag(suite, iv, tag, out),
+        |out| reference::write_header_auth_tag(u32::from(suite), iv, tag, out),
+    )
+}
+
+pub fn write_header_body(lent: BodyLent, out: &[u8]) -> (Answer<usize>, Vec<u8>) {
+    both(
+        out,
+        || format!("{lent:02X?}"),
+        |out| {
+            header::write_header_body(
+                lent.numbers,
+                lent.message_id,
+                lent.suite_data,
+                lent.text,
+                lent.pairs,
+                lent.keys,
+                out,
+            )
+        },
+        |out| {
+            reference::write_header_body(
+                &wide(lent.numbers),
+                lent.message_id,
+                lent.suite_data,
+                lent.text,
+                lent.pairs,
+                lent.keys,
+                out,
+            )
+        },
+    )
+}

@@ -1,0 +1,66 @@
+//! Messages at the greatest length and one byte above it. The pages of a
+//! zeroed vector take no memory until they are written to.
+
+use compare_header::headers::header_h;
+use compare_header::numbers::number;
+use compare_header::{compared, reads};
+use header::{Mode, Request, Which};
+
+const GREATEST: usize = u32::MAX as usize;
+
+/// Every reader on one message and start; answers their numbers.
+fn every_reader(message: &[u8], start: u64) -> [u32; 6] {
+    let request = Request {
+        which: Which::Either,
+        mode: Mode::Strict,
+        max: Some(1),
+    };
+    [
+        number(&reads::read_aad_section(message, start, Mode::Tolerant, &[7; 4]).0),
+        number(&reads::read_encrypted_data_keys_section(message, start, None, &[7; 6]).0),
+        number(&reads::read_header_body(message, start, request, &[7; 4], &[7; 6]).0),
+        number(&reads::read_header_auth_tag(message, start, 0x0178)),
+        number(&reads::find_value(message, start, b"lang")),
+        reads::host_answer(message, start).0,
+    ]
+}
+
+#[test]
+fn messages_of_four_gibibytes() {
+    let mut probe: Vec<u8> = Vec::new();
+    assert!(
+        probe.try_reserve_exact(GREATEST + 1).is_ok(),
+        "no room for the message"
+    );
+    drop(probe);
+    let mut message = vec![0u8; GREATEST + 1];
+    let h = header_h();
+    let at = GREATEST - h.len();
+    message[at..GREATEST].copy_from_slice(&h);
+    let starts = [
+        0,
+        1,
+        at,
+        at + 20,
+        at + 34,
+        GREATEST - 2,
+        GREATEST,
+        GREATEST + 1,
+    ]
+    .map(|start| start as u64)
+    .into_iter()
+    .chain([1 << 33, 1 << 63, u64::MAX]);
+    let mut count = 0;
+    for start in starts {
+        // One byte too long: nothing is read, whatever the start.
+        assert_eq!(every_reader(&message, start), [1; 6]);
+        // At the greatest length all is read, and a cut is a shortage.
+        every_reader(&message[..GREATEST], start);
+        every_reader(&message[..GREATEST - 1], start);
+        count += 18;
+    }
+    let whole = &message[..GREATEST];
+    assert_eq!(every_reader(whole, at as u64)[2], 0);
+    assert_eq!(every_reader(whole, at as u64 + 20)[4], 0);
+    compared(count + 2, "reads of messages of 4 GiB");
+}

@@ -1,0 +1,113 @@
+//! The writers on generated requests. Each refusal that an operation lists
+//! has to come about.
+
+use compare_header::expected::as_expected;
+use compare_header::numbers::{number, numbers, Answer};
+use compare_header::scale::seeds;
+use compare_header::writes::{self, BodyLent};
+use compare_header::{compared, Coverage};
+use generator::auth_cases::auth_write_case;
+use generator::body_write_cases::body_write_case;
+use generator::fields::Fields;
+use generator::write_cases::{write_keys_case, write_section_case};
+use generator::Expected;
+
+/// What was written is the image, built by concatenation alone.
+fn image_is(seed: u64, (answer, out): &(Answer<usize>, Vec<u8>), expected: Expected, image: &[u8]) {
+    as_expected(seed, answer, expected);
+    if let Ok(length) = answer {
+        assert_eq!(out[..*length], *image, "seed {seed}");
+    }
+}
+
+#[test]
+fn sections() {
+    let mut coverage = Coverage::default();
+    let mut count = 0;
+    for seed in seeds(600_000) {
+        let case = write_section_case(seed);
+        let answer = writes::write_aad_section(&case.lent.text, &case.lent.pairs, &case.out);
+        coverage.count("write section", number(&answer.0));
+        image_is(seed, &answer, case.expected, &case.image);
+        count += 1;
+    }
+    coverage.print();
+    coverage.assert_complete();
+    compared(count, "writes of context sections");
+}
+
+#[test]
+fn key_sections() {
+    let mut coverage = Coverage::default();
+    let mut count = 0;
+    for seed in seeds(600_000) {
+        let case = write_keys_case(seed);
+        let answer =
+            writes::write_encrypted_data_keys_section(&case.lent.text, &case.lent.keys, &case.out);
+        coverage.count("write keys", number(&answer.0));
+        image_is(seed, &answer, case.expected, &case.image);
+        count += 1;
+    }
+    coverage.print();
+    coverage.assert_complete();
+    compared(count, "writes of key sections");
+}
+
+fn wide(fields: &Fields) -> reference::Numbers {
+    reference::Numbers {
+        version: fields.version,
+        message_type: fields.message_type,
+        suite: fields.suite,
+        content_type: fields.content_type,
+        iv_length: fields.iv_length,
+        frame_length: fields.frame_length,
+    }
+}
+
+#[test]
+fn bodies() {
+    let mut coverage = Coverage::default();
+    let (mut count, mut too_wide) = (0, 0);
+    for seed in seeds(1_000_000) {
+        let case = body_write_case(seed);
+        let fields = &case.fields;
+        // A number wider than its field can't be handed over.
+        let Some(numbers) = numbers(&wide(fields)) else {
+            too_wide += 1;
+            continue;
+        };
+        let lent = BodyLent {
+            numbers,
+            message_id: &fields.id,
+            suite_data: &fields.suite_data,
+            text: &case.lent.text,
+            pairs: &case.lent.pairs,
+            keys: &case.lent.keys,
+        };
+        let answer = writes::write_header_body(lent, &case.out);
+        coverage.count("write body", number(&answer.0));
+        image_is(seed, &answer, case.expected, &case.image);
+        count += 1;
+    }
+    assert!(too_wide < count / 4, "{too_wide} left out of {count}");
+    coverage.print();
+    coverage.assert_complete();
+    compared(count, "writes of bodies");
+}
+
+#[test]
+fn authentication_records() {
+    let mut coverage = Coverage::default();
+    let mut count = 0;
+    for seed in seeds(600_000) {
+        let case = auth_write_case(seed);
+        let suite = u16::try_from(case.suite).expect("a suite is 16 bits wide");
+        let answer = writes::write_header_auth_tag(suite, &case.iv, &case.tag, &case.out);
+        coverage.count("write auth", number(&answer.0));
+        image_is(seed, &answer, case.expected, &case.image);
+        count += 1;
+    }
+    coverage.print();
+    coverage.assert_complete();
+    compared(count, "writes of authentication records");
+}

@@ -1,0 +1,231 @@
+//! The records as they cross the boundary: what doesn't apply is 0, and every
+//! number that can stand for a choice stands for one.
+
+use compare_header::compared;
+use compare_header::scale::seeds;
+use generator::auth_cases::auth_case;
+use generator::body_cases::body_case;
+use generator::key_cases::key_case;
+use generator::random::Random;
+use generator::section_cases::section_case;
+use generator::write_cases::write_section_case;
+use header_sys::*;
+
+/// A byte that chooses: 0, 1, or any other.
+fn choice(random: &mut Random) -> u8 {
+    match random.below(3) {
+        0 => random.below(3) as u8,
+        1 => random.pick(&[2, 3, 0x7F, 0x80, 0xFE, 0xFF]),
+        _ => random.byte(),
+    }
+}
+
+fn mode_of(mode: u8) -> reference::Mode {
+    if mode == 0 {
+        reference::Mode::Tolerant
+    } else {
+        reference::Mode::Strict
+    }
+}
+
+fn which_of(which: u8) -> reference::Which {
+    match which {
+        0 => reference::Which::Either,
+        1 => reference::Which::V1,
+        _ => reference::Which::V2,
+    }
+}
+
+/// The record of a section that was read or refused.
+fn section(answer: Result<(u32, u64), reference::Refusal>) -> HeaderSection {
+    let (number, position) = refusal(&answer);
+    let (count, tail) = answer.unwrap_or_default();
+    HeaderSection {
+        number,
+        position,
+        count: count.into(),
+        tail,
+    }
+}
+
+fn refusal<T>(answer: &Result<T, reference::Refusal>) -> (u64, u64) {
+    match answer {
+        Ok(_) => (0, 0),
+        Err(refusal) => (refusal.number.into(), refusal.position),
+    }
+}
+
+#[test]
+fn sections_and_places() {
+    let mut random = Random::new(101);
+    let mut count = 0;
+    for seed in seeds(50_000) {
+        let case = section_case(seed);
+        let (m, m_len) = (case.message.as_ptr(), case.message.len());
+        let (mut ours, mut theirs) = (case.table.clone(), case.table.clone());
+        let mode = choice(&mut random);
+        // SAFETY: pointers and lengths are those of vectors, all apart.
+        let (read, found) = unsafe {
+            let (table, len) = (ours.as_mut_ptr(), ours.len());
+            let key = &case.asked;
+            (
+                header_read_aad_section(m, m_len, case.start, mode, table, len),
+                header_find_value(m, m_len, case.start, key.as_ptr(), key.len()),
+            )
+        };
+        let wanted =
+            reference::read_aad_section(&case.message, case.start, mode_of(mode), &mut theirs);
+        assert_eq!(read, section(wanted.map(|read| (read.pairs, read.tail))));
+        assert!(ours == theirs, "seed {seed}");
+        let wanted = reference::find(&case.message, case.start, &case.asked);
+        let (number, position) = refusal(&wanted);
+        let place = wanted.unwrap_or_default();
+        let wanted = HeaderPlace {
+            number,
+            position,
+            start: place.start,
+            len: place.len,
+        };
+        assert_eq!(found, wanted, "seed {seed}");
+        count += 2;
+    }
+    compared(count, "records of sections and of places");
+}
+
+#[test]
+fn keys_and_authentication_records() {
+    let mut random = Random::new(102);
+    let mut count = 0;
+    for seed in seeds(50_000) {
+        let case = key_case(seed);
+        let (mut ours, mut theirs) = (case.table.clone(), case.table.clone());
+        let (has_max, max) = (choice(&mut random), case.max.unwrap_or(random.below(4)));
+        // SAFETY: as above.
+        let read = unsafe {
+            let (m, m_len) = (case.message.as_ptr(), case.message.len());
+            let (table, len) = (ours.as_mut_ptr(), ours.len());
+            header_read_encrypted_data_keys_section(m, m_len, case.start, has_max, max, table, len)
+        };
+        let max = (has_max != 0).then_some(max);
+        let wanted = reference::read_encrypted_data_keys_section(
+            &case.message,
+            case.start,
+            max,
+            &mut theirs,
+        );
+        assert_eq!(read, section(wanted.map(|read| (read.keys, read.tail))));
+        assert!(ours == theirs, "seed {seed}");
+
+        let case = auth_case(seed);
+        let suite = u16::try_from(case.suite).expect("a suite is 16 bits wide");
+        // SAFETY: as above.
+        let read = unsafe {
+            let (m, m_len) = (case.message.as_ptr(), case.message.len());
+            header_read_header_auth_tag(m, m_len, case.start, suite)
+        };
+        let wanted = reference::read_header_auth_tag(&case.message, case.start, case.suite);
+        let (number, position) = refusal(&wanted);
+        let record = wanted.ok();
+        let wanted = HeaderAuth {
+            number,
+            position,
+            tail: record.map_or(0, |record| record.tail),
+            iv: record.map_or([0; 12], |record| record.iv),
+            tag: record.map_or([0; 16], |record| record.tag),
+        };
+        assert_eq!(read, wanted, "seed {seed}");
+        count += 2;
+    }
+    compared(count, "records of key sections and authentication");
+}
+
+/// The record of a body that was read or refused.
+fn body(answer: Result<reference::Body, reference::Refusal>) -> HeaderBody {
+    let (number, position) = refusal(&answer);
+    let body = answer.ok();
+    let of = |field: fn(reference::Body) -> u64| body.map_or(0, field);
+    HeaderBody {
+        number,
+        position,
+        version: of(|body| body.version.into()),
+        message_type: of(|body| body.message_type.into()),
+        suite: of(|body| body.suite.into()),
+        message_id: of(|body| body.id.start),
+        message_id_len: of(|body| body.id.len),
+        pairs: of(|body| body.pairs.into()),
+        keys: of(|body| body.keys.into()),
+        content_type: of(|body| body.content_type.into()),
+        header_iv_length: of(|body| body.iv_length.into()),
+        frame_length: of(|body| body.frame_length.into()),
+        suite_data: of(|body| body.suite_data.start),
+        suite_data_len: of(|body| body.suite_data.len),
+        tail: of(|body| body.tail),
+    }
+}
+
+#[test]
+fn bodies() {
+    let mut random = Random::new(103);
+    let mut count = 0;
+    for seed in seeds(100_000) {
+        let case = body_case(seed);
+        let (mut pairs, mut keys) = (case.pair_table.clone(), case.key_table.clone());
+        let [which, mode, has_max] = [(); 3].map(|_| choice(&mut random));
+        let max = case.max.unwrap_or(random.below(4));
+        // SAFETY: pointers and lengths are those of vectors, all apart.
+        let read = unsafe {
+            header_read_header_body(
+                case.message.as_ptr(),
+                case.message.len(),
+                case.start,
+                which,
+                mode,
+                has_max,
+                max,
+                pairs.as_mut_ptr(),
+                pairs.len(),
+                keys.as_mut_ptr(),
+                keys.len(),
+            )
+        };
+        let (mut their_pairs, mut their_keys) = (case.pair_table, case.key_table);
+        let wanted = reference::read_header_body(
+            &case.message,
+            case.start,
+            which_of(which),
+            mode_of(mode),
+            (has_max != 0).then_some(max),
+            &mut their_pairs,
+            &mut their_keys,
+        );
+        assert_eq!(read, body(wanted), "seed {seed}");
+        assert!(pairs == their_pairs && keys == their_keys, "seed {seed}");
+        count += 1;
+    }
+    compared(count, "records of bodies");
+}
+
+#[test]
+fn writes() {
+    let mut count = 0;
+    for seed in seeds(50_000) {
+        let case = write_section_case(seed);
+        let (text, pairs) = (&case.lent.text, &case.lent.pairs);
+        let (mut ours, mut theirs) = (case.out.clone(), case.out);
+        // SAFETY: pointers and lengths are those of vectors, all apart.
+        let written = unsafe {
+            let (out, out_len) = (ours.as_mut_ptr(), ours.len());
+            let (table, len) = (pairs.as_ptr(), pairs.len());
+            header_write_aad_section(text.as_ptr(), text.len(), table, len, out, out_len)
+        };
+        let wanted = reference::write_aad_section(text, pairs, &mut theirs);
+        let wanted = HeaderWritten {
+            number: refusal(&wanted).0,
+            length: wanted.unwrap_or(0),
+        };
+        assert_eq!(written, wanted, "seed {seed}");
+        assert!(ours == theirs, "seed {seed}");
+        count += 1;
+    }
+    compared(count, "records of writes");
+}

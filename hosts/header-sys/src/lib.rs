@@ -1,0 +1,188 @@
+//! The proved operations as they cross the boundary to C: a lent slice is a
+//! pointer and a length, a record is passed and returned by value.
+//!
+//! None of the functions has a condition on its numbers. The pointers are the
+//! caller's part, and the crate `header` sees to them: each is good for its
+//! length, and what is lent to be changed overlaps nothing else that is lent.
+#![no_std]
+
+/// A section that was read: how many pairs or keys, and the tail. Number 0:
+/// accepted.
+#[repr(C)]
+#[derive(Clone, Copy, Debug, PartialEq, Eq)]
+pub struct HeaderSection {
+    pub number: u64,
+    pub position: u64,
+    pub count: u64,
+    pub tail: u64,
+}
+
+/// An authentication record that was read; all 00 on a refusal.
+#[repr(C)]
+#[derive(Clone, Copy, Debug, PartialEq, Eq)]
+pub struct HeaderAuth {
+    pub number: u64,
+    pub position: u64,
+    pub tail: u64,
+    pub iv: [u8; 12],
+    pub tag: [u8; 16],
+}
+
+/// A body that was read: its numbers, where its ID and suite data stand, how
+/// many pairs and keys, and the tail. On a refusal all but the number and the
+/// position is 0.
+#[repr(C)]
+#[derive(Clone, Copy, Debug, PartialEq, Eq)]
+pub struct HeaderBody {
+    pub number: u64,
+    pub position: u64,
+    pub version: u64,
+    pub message_type: u64,
+    pub suite: u64,
+    pub message_id: u64,
+    pub message_id_len: u64,
+    pub pairs: u64,
+    pub keys: u64,
+    pub content_type: u64,
+    pub header_iv_length: u64,
+    pub frame_length: u64,
+    pub suite_data: u64,
+    pub suite_data_len: u64,
+    pub tail: u64,
+}
+
+/// A value that was found: where its bytes stand in the message.
+#[repr(C)]
+#[derive(Clone, Copy, Debug, PartialEq, Eq)]
+pub struct HeaderPlace {
+    pub number: u64,
+    pub position: u64,
+    pub start: u64,
+    pub len: u64,
+}
+
+/// What a writer wrote: how many bytes from the output's first on; 0 on a
+/// refusal.
+#[repr(C)]
+#[derive(Clone, Copy, Debug, PartialEq, Eq)]
+pub struct HeaderWritten {
+    pub number: u64,
+    pub length: u64,
+}
+
+/// The numbers that a body writer is handed, each as wide as it is stored.
+#[repr(C)]
+#[derive(Clone, Copy, Debug, PartialEq, Eq)]
+pub struct HeaderNumbers {
+    pub version: u8,
+    pub message_type: u8,
+    pub suite: u16,
+    pub content_type: u8,
+    pub header_iv_length: u8,
+    pub frame_length: u32,
+}
+
+extern "C" {
+    /// Mode 0: tolerant; any other: strict. Four numbers a pair.
+    pub fn header_read_aad_section(
+        m: *const u8,
+        m_len: usize,
+        start: u64,
+        mode: u8,
+        table: *mut u32,
+        table_len: usize,
+    ) -> HeaderSection;
+
+    /// has_max 0: no maximum; any other: at most `max` keys. Six numbers a
+    /// key.
+    pub fn header_read_encrypted_data_keys_section(
+        m: *const u8,
+        m_len: usize,
+        start: u64,
+        has_max: u8,
+        max: u64,
+        table: *mut u32,
+        table_len: usize,
+    ) -> HeaderSection;
+
+    /// which 0: either version; 1: version 1 only; any other: version 2 only.
+    /// Mode and maximum as for the sections.
+    pub fn header_read_header_body(
+        m: *const u8,
+        m_len: usize,
+        start: u64,
+        which: u8,
+        mode: u8,
+        has_max: u8,
+        max: u64,
+        pairs: *mut u32,
+        pairs_len: usize,
+        keys: *mut u32,
+        keys_len: usize,
+    ) -> HeaderBody;
+
+    pub fn header_read_header_auth_tag(
+        m: *const u8,
+        m_len: usize,
+        start: u64,
+        suite: u16,
+    ) -> HeaderAuth;
+
+    pub fn header_find_value(
+        m: *const u8,
+        m_len: usize,
+        start: u64,
+        key: *const u8,
+        key_len: usize,
+    ) -> HeaderPlace;
+
+    /// 0 where the header at the start is accepted, else the refusal's number.
+    pub fn header_number(m: *const u8, m_len: usize, start: u64) -> u32;
+
+    /// The tail where the header is accepted, else the refusal's position.
+    pub fn header_position(m: *const u8, m_len: usize, start: u64) -> u64;
+
+    pub fn header_write_aad_section(
+        text: *const u8,
+        text_len: usize,
+        pairs: *const u32,
+        pairs_len: usize,
+        out: *mut u8,
+        out_len: usize,
+    ) -> HeaderWritten;
+
+    pub fn header_write_encrypted_data_keys_section(
+        text: *const u8,
+        text_len: usize,
+        keys: *const u32,
+        keys_len: usize,
+        out: *mut u8,
+        out_len: usize,
+    ) -> HeaderWritten;
+
+    pub fn header_write_header_auth_tag(
+        suite: u16,
+        iv: *const u8,
+        iv_len: usize,
+        tag: *const u8,
+        tag_len: usize,
+        out: *mut u8,
+        out_len: usize,
+    ) -> HeaderWritten;
+
+    pub fn header_write_header_body(
+        numbers: HeaderNumbers,
+        message_id: *const u8,
+        message_id_len: usize,
+        suite_data: *const u8,
+        suite_data_len: usize,
+        text: *const u8,
+        text_len: usize,
+        pairs: *const u32,
+        pairs_len: usize,
+        keys: *const u32,
+        keys_len: usize,
+        out: *mut u8,
+        out_len: usize,
+    ) -> HeaderWritten;
+}

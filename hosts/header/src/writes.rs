@@ -1,0 +1,100 @@
+//! Writing sections and bodies.
+
+use crate::Refusal;
+use header_sys::{HeaderNumbers, HeaderWritten};
+
+/// The fields of a body that are numbers, each as wide as it is stored.
+#[derive(Clone, Copy, Debug, Default, PartialEq, Eq, Hash)]
+pub struct Numbers {
+    pub version: u8,
+    pub message_type: u8,
+    pub suite: u16,
+    pub content_type: u8,
+    pub iv_length: u8,
+    pub frame_length: u32,
+}
+
+/// The length of what was written, which fits the output.
+#[inline]
+pub(crate) fn length(record: HeaderWritten) -> Result<usize, Refusal> {
+    // A writer has no shortage to give the position of.
+    Refusal::test(record.number, 0)?;
+    Ok(record.length as usize)
+}
+
+/// Writes a context section of the table's pairs; answers its length.
+#[inline]
+pub fn write_aad_section(text: &[u8], pairs: &[u32], out: &mut [u8]) -> Result<usize, Refusal> {
+    // SAFETY: pointers and lengths are the slices'; `out` is borrowed alone,
+    // so it overlaps neither.
+    length(unsafe {
+        header_sys::header_write_aad_section(
+            text.as_ptr(),
+            text.len(),
+            pairs.as_ptr(),
+            pairs.len(),
+            out.as_mut_ptr(),
+            out.len(),
+        )
+    })
+}
+
+/// Writes a key section of the table's keys; answers its length.
+#[inline]
+pub fn write_encrypted_data_keys_section(
+    text: &[u8],
+    keys: &[u32],
+    out: &mut [u8],
+) -> Result<usize, Refusal> {
+    // SAFETY: as for `write_aad_section`.
+    length(unsafe {
+        header_sys::header_write_encrypted_data_keys_section(
+            text.as_ptr(),
+            text.len(),
+            keys.as_ptr(),
+            keys.len(),
+            out.as_mut_ptr(),
+            out.len(),
+        )
+    })
+}
+
+/// Writes a body; answers its length. Pairs and keys have their places in one
+/// text.
+#[inline]
+pub fn write_header_body(
+    numbers: Numbers,
+    message_id: &[u8],
+    suite_data: &[u8],
+    text: &[u8],
+    pairs: &[u32],
+    keys: &[u32],
+    out: &mut [u8],
+) -> Result<usize, Refusal> {
+    let numbers = HeaderNumbers {
+        version: numbers.version,
+        message_type: numbers.message_type,
+        suite: numbers.suite,
+        content_type: numbers.content_type,
+        header_iv_length: numbers.iv_length,
+        frame_length: numbers.frame_length,
+    };
+    // SAFETY: as for `write_aad_section`.
+    length(unsafe {
+        header_sys::header_write_header_body(
+            numbers,
+            message_id.as_ptr(),
+            message_id.len(),
+            suite_data.as_ptr(),
+            suite_data.len(),
+            text.as_ptr(),
+            text.len(),
+            pairs.as_ptr(),
+            pairs.len(),
+            keys.as_ptr(),
+            keys.len(),
+            out.as_mut_ptr(),
+            out.len(),
+        )
+    })
+}
