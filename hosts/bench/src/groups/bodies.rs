@@ -1,7 +1,7 @@
 //! Whole bodies, against the separate implementation.
 
+use super::agreed;
 use super::keys::key;
-use crate::measure::versus;
 use crate::table::Table;
 use generator::fields::Fields;
 use generator::image::Form;
@@ -58,7 +58,8 @@ fn read(table: &mut Table, what: &str, fields: &Fields) {
     let message = fields.image(Form::Today).bytes;
     let numbers = (4 * fields.pairs.len(), 6 * fields.keys.len());
     let [mut ours, mut theirs] = [(); 2].map(|_| (vec![0; numbers.0], vec![0; numbers.1]));
-    let times = versus(
+    let times = agreed(
+        1,
         |_| {
             let (pairs, keys) = black_box(&mut ours);
             header::read_header_body(black_box(&message), 0, Request::default(), pairs, keys)
@@ -102,11 +103,13 @@ fn write(table: &mut Table, what: &str, fields: &Fields) {
         iv_length: fields.iv_length,
         frame_length: fields.frame_length,
     };
-    let times = versus(
+    let times = agreed(
+        1,
         |_| {
             let (lent, out) = (black_box(&lent), black_box(&mut ours[..]));
             let (text, pairs, keys) = (&lent.text, &lent.pairs, &lent.keys);
-            header::write_header_body(numbers, &fields.id, &[], text, pairs, keys, out).unwrap_or(0)
+            header::write_header_body(numbers, &fields.id, &[], text, pairs, keys, out)
+                .map_or(0, |length| length as u64)
         },
         |_| {
             let (lent, out) = (black_box(&lent), black_box(&mut theirs[..]));

@@ -1,6 +1,6 @@
 //! Context sections, against the separate implementation.
 
-use crate::measure::versus;
+use super::agreed;
 use crate::table::Table;
 use generator::image::{section, Form};
 use generator::many::{pairs, Order, MOST, ORDERS};
@@ -89,7 +89,8 @@ fn read(table: &mut Table, what: &str, lists: &[Vec<Pair>]) {
     let numbers = 4 * lists[0].len();
     let (mut ours, mut theirs) = (vec![0; numbers], vec![0; numbers]);
     let message = |call: usize| &black_box(&messages[..])[call % lists.len()];
-    let times = versus(
+    let times = agreed(
+        lists.len(),
         |call| {
             header::read_aad_section(message(call), 0, Mode::Tolerant, black_box(&mut ours))
                 .map_or(0, |read| read.tail)
@@ -111,10 +112,12 @@ fn write(table: &mut Table, what: &str, lists: &[Vec<Pair>]) {
         .collect();
     let (mut ours, mut theirs) = (vec![0; 1 << 16 | 2], vec![0; 1 << 16 | 2]);
     let lent = |call: usize| &black_box(&lent[..])[call % lists.len()];
-    let times = versus(
+    let times = agreed(
+        lists.len(),
         |call| {
             let lent = lent(call);
-            header::write_aad_section(&lent.text, &lent.pairs, black_box(&mut ours)).unwrap_or(0)
+            header::write_aad_section(&lent.text, &lent.pairs, black_box(&mut ours))
+                .map_or(0, |length| length as u64)
         },
         |call| {
             let lent = lent(call);

@@ -1,6 +1,6 @@
 //! Key sections, against the separate implementation.
 
-use crate::measure::versus;
+use super::agreed;
 use crate::table::Table;
 use generator::image::keys;
 use generator::random::Random;
@@ -44,7 +44,8 @@ fn read(table: &mut Table, what: &str, lists: &[Vec<Key>]) {
     let numbers = 6 * lists[0].len();
     let (mut ours, mut theirs) = (vec![0; numbers], vec![0; numbers]);
     let message = |call: usize| &black_box(&messages[..])[call % lists.len()];
-    let times = versus(
+    let times = agreed(
+        lists.len(),
         |call| {
             let table = black_box(&mut ours[..]);
             header::read_encrypted_data_keys_section(message(call), 0, None, table)
@@ -67,10 +68,12 @@ fn write(table: &mut Table, what: &str, lists: &[Vec<Key>]) {
         .collect();
     let (mut ours, mut theirs) = (vec![0; 1 << 17], vec![0; 1 << 17]);
     let lent = |call: usize| &black_box(&lent[..])[call % lists.len()];
-    let times = versus(
+    let times = agreed(
+        lists.len(),
         |call| {
             let (lent, out) = (lent(call), black_box(&mut ours[..]));
-            header::write_encrypted_data_keys_section(&lent.text, &lent.keys, out).unwrap_or(0)
+            header::write_encrypted_data_keys_section(&lent.text, &lent.keys, out)
+                .map_or(0, |length| length as u64)
         },
         |call| {
             let (lent, out) = (lent(call), black_box(&mut theirs[..]));
