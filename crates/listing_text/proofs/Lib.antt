@@ -1,0 +1,10 @@
+pub mod Decimals
+pub mod Puts
+pub mod Going
+pub mod Loops
+pub mod LineLaws
+pub mod SizeLaws
+pub mod AnswerLaws
+pub mod TextSizes
+pub mod Tables
+pub mod Joint

@@ -1,0 +1,5 @@
+pub mod Listing
+pub mod Examples
+pub mod Numerals
+pub mod Put
+pub mod Answers

@@ -1,0 +1,86 @@
+// How long the lines are, before any is written.
+use super::numerals::decimal_size;
+use body_reader::HeaderBody;
+ghost use mathlib.Core.Path.{_≡_};
+ghost use mathlib.Core.List.{_++_};
+ghost use Prim.Native.Nat.{_+_, _*_, _≤_, _<_};
+ghost use lib.ListN.{length};
+ghost use Rattle.listing_text.specs.Listing.{line, decimal-field, header-fields, word-header, word-refused};
+ghost use Rattle.listing_text.specs.Put.{parts-size as parts-size-by};
+ghost use Rattle.listing_text.specs.Answers.{Sized, tables-size as tables-size-by, data-size as data-size-by, body-size as body-size-by};
+
+pub fn wide(x: u32) -> usize
+    ensures { λ r. ⌜ (r ≡ x) × (r < 4294967296) ⌝ }
+{
+    x as usize
+}
+
+// The fields of the first n parts of the table.
+pub fn parts_size(table: &[u32], n: usize) -> usize
+    requires { ⌜ (2 * n ≤ length (now table)) × (n ≤ 2048) ⌝ }
+    ensures { λ r. ⌜ (r ≡ parts-size-by (now (table .entry)) n) × (r ≤ 17592186046464) ⌝ }
+{
+    let mut total: usize = 0;
+    let mut i: usize = 0;
+    let mut j: usize = 0;
+    while i < n {
+        total += 1 + 2 * wide(table[j + 1]);
+        j += 2;
+        i += 1;
+    }
+    total
+}
+
+pub fn header_size(
+    version: u64,
+    messageType: u64,
+    suite: u64,
+    contentType: u64,
+    frameLength: u64,
+    tail: u64,
+) -> usize
+    ensures { λ r. ⌜ (r ≡ length (line word-header (header-fields version messageType suite contentType frameLength tail))) × (r ≤ 100) ⌝ }
+{
+    decimal_size(version) + decimal_size(frameLength) + decimal_size(tail) + 21
+}
+
+pub fn refusal_size(number: u64, position: u64) -> usize
+    ensures { λ r. ⌜ (r ≡ length (line word-refused (decimal-field number ++ decimal-field position))) × (r ≤ 100) ⌝ }
+{
+    decimal_size(number) + decimal_size(position) + 10
+}
+
+fn tables_size(pairs: &[u32], np: usize, keys: &[u32], nk: usize) -> usize
+    requires { ⌜ Sized (now pairs) 2 np × Sized (now keys) 3 nk ⌝ }
+    ensures { λ r. ⌜ (r ≡ tables-size-by (now (pairs .entry)) np (now (keys .entry)) nk) × (r ≤ 35184372110000) ⌝ }
+{
+    5 * np + parts_size(pairs, 2 * np) + (4 * nk + parts_size(keys, 3 * nk))
+}
+
+fn data_size(version: u64, len: usize) -> usize
+    requires { ⌜ len < 4294967296 ⌝ }
+    ensures { λ r. ⌜ (r ≡ data-size-by version len) × (r < 8589934600) ⌝ }
+{
+    if version == 2 {
+        return 6 + 2 * len;
+    }
+    0
+}
+
+// The whole text of a header.
+pub fn body_size(body: HeaderBody, tail: u64, pairs: &[u32], keys: &[u32]) -> usize
+    requires { ⌜ (body .messageIdLen < 4294967296) × (body .suiteDataLen < 4294967296) × Sized (now pairs) 2 (body .pairs) × Sized (now keys) 3 (body .keys) ⌝ }
+    ensures { λ r. ⌜ r ≡ body-size-by body tail (now (pairs .entry)) (now (keys .entry)) ⌝ }
+{
+    let header = header_size(
+        body.version,
+        body.messageType,
+        body.suite,
+        body.contentType,
+        body.frameLength,
+        tail,
+    );
+    let tables = tables_size(pairs, body.pairs as usize, keys, body.keys as usize);
+    let data = data_size(body.version, body.suiteDataLen as usize);
+    header + (4 + 2 * (body.messageIdLen as usize)) + (tables + data)
+}
