@@ -6,6 +6,7 @@ pub mod versions;
 use checks::Checked;
 use checks::WriteAnswer;
 use checks::keys::check_keys;
+use checks::pairs::check_few_pairs;
 use checks::pairs::check_pairs;
 use checks::refuses;
 use section_write::aad_section_size;
@@ -35,6 +36,16 @@ pub struct Numbers {
     pub frameLength: u32,
 }
 
+// Few pairs are checked apart, as in `section_write`, and for the same reason here too.
+fn check_body_pairs(text: &[u8], pairs: &[u32]) -> Checked
+    ensures { λ r. ⌜ r ≡ checked (first (writing-aad-section (now (text .entry)) (now (pairs .entry)) .checks)) ⌝ }
+{
+    if pairs.len() / 4 <= 32 {
+        return check_few_pairs(text, pairs);
+    }
+    check_pairs(text, pairs)
+}
+
 // All but 28, in document 01's order.
 fn check_body(
     n: Numbers,
@@ -50,7 +61,7 @@ fn check_body(
     if let Checked::Fails(r) = a {
         return Checked::Fails(r);
     }
-    let b = check_pairs(text, pairs);
+    let b = check_body_pairs(text, pairs);
     if let Checked::Fails(r) = b {
         return Checked::Fails(r);
     }

@@ -113,3 +113,22 @@ pub fn check_pairs(text: &[u8], table: &[u32]) -> Checked
     }
     fails(PAIRS_TOO_LONG)
 }
+
+// The same of at most 32 pairs, with no large index on the stack.
+pub fn check_few_pairs(text: &[u8], table: &[u32]) -> Checked
+    requires { ⌜ length (now table) / 4 ≤ 32 ⌝ }
+    ensures { λ r. ⌜ r ≡ checked (first (writing-aad-section (now (text .entry)) (now (table .entry)) .checks)) ⌝ }
+{
+    let a = check_table(text, table, 4);
+    if let Checked::Fails(r) = a {
+        return Checked::Fails(r);
+    }
+    let b = check_few(text, table);
+    if let Checked::Fails(r) = b {
+        return Checked::Fails(r);
+    }
+    if entries_size(table) < 65534 {
+        return Checked::Passes;
+    }
+    fails(PAIRS_TOO_LONG)
+}
