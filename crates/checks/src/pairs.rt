@@ -127,8 +127,8 @@ pub fn check_few_pairs(text: &[u8], table: &[u32]) -> Checked
     if let Checked::Fails(r) = b {
         return Checked::Fails(r);
     }
-    if entries_size(table) < 65534 {
-        return Checked::Passes;
+    if 65534 <= entries_size(table) {
+        return fails(PAIRS_TOO_LONG);
     }
-    fails(PAIRS_TOO_LONG)
+    Checked::Passes
 }

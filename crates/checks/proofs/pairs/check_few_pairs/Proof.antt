@@ -7,4 +7,4 @@ use Rattle.checks.proofs.pairs.check_few_pairs.Tie as tie
 ruleset laws = (passed-inside, table-small, table-count, pairs-table, pairs-each, pairs-13, pairs-pass, needs)
 
 pub check-few-pairs-spec : {M : Type 1} → statement M
-check-few-pairs-spec = tie.close (tie.spec (λ c κs. search laws) (λ c. search laws) (λ c. search laws) (λ c. search laws) (λ c κs. search laws) (λ c. search laws) (λ c. search laws) (λ c. search laws) (λ c κs. search laws) (λ c. search laws) (λ c κs. search laws) (λ c. search laws))
+check-few-pairs-spec = tie.close (tie.spec (λ c κs. search laws) (λ c. search laws) (λ c. search laws) (λ c. search laws) (λ c κs. search laws) (λ c. search laws) (λ c. search laws) (λ c. search laws) (λ c κs. search laws) (λ c κs. search laws) (λ c. search laws) (λ c. search laws))
