@@ -12,10 +12,8 @@ use Rattle.format.specs.Read.{Answer, accepted, refused, at, addressable, opera
 use Rattle.format.specs.Serialize.{images}
 use Rattle.format.specs.Shared.{frame-fits}
 use Rattle.format.specs.Fields.{HeaderBody as BodyRead}
-use Rattle.format.specs.Context.{read-aad-section}
-use Rattle.format.specs.Keys.{read-encrypted-data-keys-section}
 use Rattle.format.specs.Body.{Request, tests-frames, request, whole, read-opening, read-closing, read-body, read-header-body}
-use Rattle.format.specs.Lent.{place, filled, pair-numbers, key-numbers, pair-table-after, key-table-after}
+use Rattle.format.specs.Lent.{place, filled, pair-table-after, key-table-after}
 use Rattle.steps.proofs.Operations.{operation-guarded, operation-reached}
 use Rattle.wire.specs.Codes.{because}
 use Rattle.wire.specs.declared.Refusal.{Refusal}
@@ -24,9 +22,7 @@ use Rattle.request.specs.Codes.{which-of, mode-of, max-of}
 use Rattle.request.specs.declared.Which.{Which}
 use Rattle.request.specs.declared.Mode.{Mode}
 use Rattle.request.specs.declared.Max.{Max}
-use Rattle.context.proofs.Answers.{Had as PairsHad}
 use Rattle.context.proofs.Whole as pairs
-use Rattle.keys.proofs.Answers.{Had as KeysHad}
 use Rattle.keys.proofs.Whole as keys
 use Rattle.ends.specs.Codes.{closing-of}
 use Rattle.ends.specs.declared.Opening.{Opening}
@@ -75,29 +71,21 @@ module _ (which : Which) (mode : Mode) (max : Max) (m : List ℕ) (start : ℕ) 
     pub second-fits : length m < 4294967296 → Fits w64 (second + 2)
     second-fits h = let y = context-near m h mode first _ refl np second (stages .pairs) in omega arith
 
-    pub pairs-stand : 0 < 2 * np → entries-end m (2 * np) (first + 4) ≤ length m
-    pairs-stand = pairs.section-entries mode m first _ refl np second (stages .pairs)
-
-    pub keys-stand : 0 < 3 * nk → entries-end m (3 * nk) (second + 2) ≤ length m
-    keys-stand = keys.section-entries max m second _ refl nk (stages .third) (stages .keys)
-
     -- what the definition reads there
     opened : OpeningHad (at (read-opening (which-of which)) m start) o first
     opened = opening-got (at (read-opening (which-of which)) m start) _ refl o first (stages .opens)
 
-    paired : PairsHad (at (read-aad-section (mode-of mode)) m first) np second
+    paired : pairs.Had mode m first np second
     paired = pairs.had mode m first _ refl np second (stages .pairs)
 
-    keyed : KeysHad (at (read-encrypted-data-keys-section (max-of max)) m second) nk (stages .third)
+    keyed : keys.Had max m second nk (stages .third)
     keyed = keys.had max m second _ refl nk (stages .third) (stages .keys)
 
-    pairs-are : images place (entries-here m (2 * np) (first + 4)) ≡ pair-numbers (paired .items)
-    unfolding paired
-    pairs-are = pairs.section-numbers mode m first _ refl np second (stages .pairs)
+    pub pairs-stand : 0 < 2 * np → entries-end m (2 * np) (first + 4) ≤ length m
+    pairs-stand = paired .entries
 
-    keys-are : images place (entries-here m (3 * nk) (second + 2)) ≡ key-numbers (keyed .items)
-    unfolding keyed
-    keys-are = keys.section-numbers max m second _ refl nk (stages .third) (stages .keys)
+    pub keys-stand : 0 < 3 * nk → entries-end m (3 * nk) (second + 2) ≤ length m
+    keys-stand = keyed .entries
 
     closed : ClosingHad (at (read-closing (eqb (opened .item .version) 1)) m (stages .third)) c tail
     closed =
@@ -138,6 +126,6 @@ module _ (which : Which) (mode : Mode) (max : Max) (m : List ℕ) (start : ℕ) 
             in
             record {
               answer = f ∙ same-body _ _ _ _ _ _ _ _ tail (sym (opened .coded)) (sym (paired .long)) (sym (keyed .long)) (sym (closed .coded)) ∙ sym (ap body-of e);
-              pairTable = p ∙ ap (λ (l : List ℕ). filled l pt) pairs-are ∙ sym (ap (λ (x : Answer BodyRead). pair-table-after x pt) e);
-              keyTable = k ∙ ap (λ (l : List ℕ). filled l kt) keys-are ∙ sym (ap (λ (x : Answer BodyRead). key-table-after x kt) e);
+              pairTable = p ∙ ap (λ (l : List ℕ). filled l pt) (paired .numbers) ∙ sym (ap (λ (x : Answer BodyRead). pair-table-after x pt) e);
+              keyTable = k ∙ ap (λ (l : List ℕ). filled l kt) (keyed .numbers) ∙ sym (ap (λ (x : Answer BodyRead). key-table-after x kt) e);
             }

@@ -20,12 +20,12 @@ use Rattle.request.specs.declared.Max.{Max}
 use Rattle.context.specs.Codes.{context-of, why-context}
 use Rattle.context.specs.declared.ContextAnswer.{ContextAnswer}
 use Rattle.context.specs.declared.ContextAnswer.the-variants as context
-use Rattle.context.proofs.Answers.{context-no, Had as PairsHad}
+use Rattle.context.proofs.Answers.{context-no}
 use Rattle.context.proofs.Whole as pairs
 use Rattle.keys.specs.Codes.{keys-of, why-keys}
 use Rattle.keys.specs.declared.KeysAnswer.{KeysAnswer}
 use Rattle.keys.specs.declared.KeysAnswer.the-variants as key
-use Rattle.keys.proofs.Answers.{keys-no, Had as KeysHad}
+use Rattle.keys.proofs.Answers.{keys-no}
 use Rattle.keys.proofs.Whole as keys
 use Rattle.ends.specs.Codes.{opening-of, closing-of, why-opening, why-closing}
 use Rattle.ends.specs.declared.Opening.{Opening}
@@ -55,10 +55,10 @@ module _ (m : List ℕ) (h : length m < 4294967296) where
       omega arith
 
   pub context-near : (mode : Mode) (s : ℕ) (a : ContextAnswer) → a ≡ context-of (at (read-aad-section (mode-of mode)) m s) → (n t : ℕ) → a ≡ context.Accepted n t → t < 4294967296
-  context-near mode s a is n t b = let y = pairs.section-tail mode m s a is n t b in omega arith
+  context-near mode s a is n t b = let y = pairs.had mode m s a is n t b .within in omega arith
 
   pub keys-near : (max : Max) (s : ℕ) (a : KeysAnswer) → a ≡ keys-of (at (read-encrypted-data-keys-section (max-of max)) m s) → (n t : ℕ) → a ≡ key.Accepted n t → t < 4294967296
-  keys-near max s a is n t b = let y = keys.section-tail max m s a is n t b in omega arith
+  keys-near max s a is n t b = let y = keys.had max m s a is n t b .within in omega arith
 
 module _ (which : Which) (mode : Mode) (max : Max) (m : List ℕ) (start : ℕ) where
   -- whatever the tables
@@ -89,7 +89,7 @@ module _ (which : Which) (mode : Mode) (max : Max) (m : List ℕ) (start : ℕ) 
           w (f ∙ ap why-context e)
 
       module _ (np second : ℕ) (b-got : b ≡ context.Accepted np second) (c : KeysAnswer) (c-is : c ≡ keys-of (at (read-encrypted-data-keys-section (max-of max)) m second)) where
-        paired : PairsHad (at (read-aad-section (mode-of mode)) m first) np second
+        paired : pairs.Had mode m first np second
         paired = pairs.had mode m first b b-is np second b-got
 
         pub measure-no-keys : (q : Refusal) → c ≡ key.Refused q → (w : Refusal) → w ≡ why-keys c → Measured which mode max m start (measure.Not w)
@@ -99,7 +99,7 @@ module _ (which : Which) (mode : Mode) (max : Max) (m : List ℕ) (start : ℕ) 
             w (f ∙ ap why-keys e)
 
         module _ (nk third : ℕ) (c-got : c ≡ key.Accepted nk third) (d : ClosingAnswer) (d-is : d ≡ closing-of (at (read-closing (eqb (o .version) 1)) m third)) where
-          keyed : KeysHad (at (read-encrypted-data-keys-section (max-of max)) m second) nk third
+          keyed : keys.Had max m second nk third
           keyed = keys.had max m second c c-is nk third c-got
 
           d-read : d ≡ closing-of (at (read-closing (eqb (opened .item .version) 1)) m third)

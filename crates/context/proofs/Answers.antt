@@ -9,6 +9,7 @@ use Rattle.format.specs.Serialize.{Part}
 use Rattle.format.specs.Fields.{PairAt}
 use Rattle.wire.specs.Codes.{because}
 use Rattle.wire.specs.declared.Refusal.{Refusal}
+use Rattle.entries.proofs.Sections.{Counts, not-counted}
 use Rattle.context.specs.Codes.{context-of, why-context, found-of}
 use Rattle.context.specs.declared.ContextAnswer.{ContextAnswer}
 use Rattle.context.specs.declared.ContextAnswer.the-variants as context
@@ -16,18 +17,15 @@ use Rattle.context.specs.declared.FoundAnswer.{FoundAnswer}
 use Rattle.context.specs.declared.FoundAnswer.the-variants as found
 
 -- pairs
-pub record Had (o : Answer (List PairAt)) (n t : ℕ) : Type 0 where
-  pub items : List PairAt
-  pub is : o ≡ accepted items t
-  pub long : length items ≡ n
+abbrev pub count-of : ContextAnswer → Answer ℕ
+count-of (context.Accepted n t) = accepted n t
+count-of (context.Refused q) = refused (q .number) (q .position)
 
-pub context-got : (o : Answer (List PairAt)) (a : ContextAnswer) → a ≡ context-of o → (n t : ℕ) → a ≡ context.Accepted n t → Had o n t
-context-got (accepted ps u) a is n t b = record { items = ps; is = ap (accepted ps) (cc); long = cc }
-context-got (refused k p) a is n t b = let z : _≡_ {A = ℕ} 0 1 = cc in absurd (omega arith)
+pub context-counts : Counts context-of count-of
+context-counts = record { many = λ l t. refl; none = λ k p. refl }
 
 pub context-no : (o : Answer (List PairAt)) (a : ContextAnswer) → a ≡ context-of o → (q : Refusal) → a ≡ context.Refused q → o ≡ refused (q .number) (q .position)
-context-no (accepted ps u) a is q b = cc
-context-no (refused k p) a is q b = let z : because k p ≡ q = cc in rw (← z)
+context-no o a is q b = not-counted context-counts o a is _ _ (ap count-of b)
 
 pub why-accepted : (x : ContextAnswer) (n t : ℕ) → x ≡ context.Accepted n t → (q : Refusal) → q ≡ because 0 0 → q ≡ why-context x
 why-accepted x n t e q f = f ∙ sym (ap why-context e)

@@ -29,9 +29,9 @@ use Rattle.context.specs.declared.ContextAnswer.the-variants as context
 use Rattle.context.specs.declared.FoundAnswer.{FoundAnswer}
 use Rattle.context.specs.declared.FoundAnswer.the-variants as found
 use Rattle.request.specs.declared.Mode.the-variants.{Tolerant}
-use Rattle.context.proofs.Answers.{Had, context-no, HadValue, found-got, found-no}
+use Rattle.context.proofs.Answers.{context-no, HadValue, found-got, found-no}
 use Rattle.context.proofs.Known.{forward, section-tidy, section-known}
-use Rattle.context.proofs.Whole.{had, section-pairs}
+use Rattle.context.proofs.Whole.{Had, had}
 
 -- the search in pairs, by the definition
 module _ (k m : List ℕ) (t : ℕ) where
@@ -121,14 +121,14 @@ module _ (k m : List ℕ) (start : ℕ) (a : ContextAnswer) (aIs : a ≡ context
   value-not q b w f = rw (f, b, stop _ (section-tidy tolerant) m start _ _ (context-no (at (read-aad-section tolerant) m start) a aIs q b))
 
   module _ (pairs tail : ℕ) (b : a ≡ context.Accepted pairs tail) where
-    abbrev read : Had (at (read-aad-section tolerant) m start) pairs tail
+    abbrev read : Had Tolerant m start pairs tail
     read = had Tolerant m start a aIs pairs tail b
 
     pub value-up : (r : FoundAnswer) → r ≡ found-in k (pairs-here m pairs (start + 4)) → r ≡ found-of (at (find-value k) m start)
     unfolding find-value
     value-up r f =
         f
-        ∙ ap (found-in k) (sym (section-pairs Tolerant m start a aIs pairs tail b))
+        ∙ ap (found-in k) (sym (read .are))
         ∙ sym (ap found-of (go _ (section-tidy tolerant) m start (read .items) tail (read .is)) ∙ up-found k m tail (read .items))
 
 -- as an operation of its own

@@ -1,24 +1,25 @@
 -- A pair that was read is what stands there, and so are pairs and sections. Assumes nothing.
-use mathlib.Core.Path.{_≡_, refl, sym, ap, _∙_}
+use mathlib.Core.Path.{_≡_, refl, _∙_}
 use mathlib.Core.Bool.{Bool, true, false}
-use mathlib.Core.List.{List, [], _∷_, map}
-use Prim.Native.Nat.{ℕ, zero, suc, _+_, _≤_, _<_}
+use mathlib.Core.List.{List, [], map}
+use Prim.Native.Nat.{ℕ, zero, suc, _+_, _≤_}
 use native.Mathlib.Omega.{arith}
 use lib.Dec.{eqb}
 use lib.ListN.{length}
-use Rattle.format.specs.Read.{Reader, accepted, refused, repeat, at}
+use Rattle.format.specs.Read.{accepted, at}
 use Rattle.format.specs.Serialize.{read-uint16, sum}
 use Rattle.format.specs.Fields.{PairAt, pair-of}
-use Rattle.format.specs.Context.{Mode, linear-length, pair-length, read-text, read-aad-pair, read-next-aad-pair, read-aad, read-aad-of, read-aad-section, read-aad-section-into}
-use Rattle.steps.specs.Places.{number16, entry-here, entry-end}
+use Rattle.format.specs.Context.{Mode, linear-length, read-aad-pair, read-next-aad-pair, read-aad, read-aad-of, read-aad-section}
+use Rattle.steps.specs.Places.{number16, entry-end}
 use Rattle.steps.proofs.Tidy.{Tidy, tidy, return-tidy, text-tidy, uint16-tidy}
 use Rattle.steps.proofs.Steps.{un-bind, un-test, un-return}
 use Rattle.steps.proofs.Frames.{un-frame}
 use Rattle.steps.proofs.Numbers.{length-part, uint16-known}
 use Rattle.steps.proofs.Entries.{text-known}
 use Rattle.entries.specs.Places.{items-here, items-end, pair-here, pair-end, pairs-here, pairs-end}
-use Rattle.entries.proofs.Items.{reach, here-length}
-use Rattle.entries.proofs.Walk.{Known, Kind, all-known, all-length}
+use Rattle.entries.proofs.Items.{reach}
+use Rattle.entries.proofs.Walk.{Known, Kind}
+use Rattle.entries.proofs.Sections.{Holds, all-hold}
 
 -- tidy readers
 pub pair-tidy : Tidy read-aad-pair
@@ -80,19 +81,14 @@ here-size m (suc n) s h =
     omega (arith, p, q, here-size m n (pair-end m s) h)
 
 -- an accepted section: its pairs stand from the fifth byte on
-pub record Holds (m : List ℕ) (start : ℕ) (ps : List PairAt) (t : ℕ) : Type 0 where
-  pub are : ps ≡ pairs-here m (length ps) (start + 4)
-  pub inside : 0 < length ps → pairs-end m (length ps) (start + 4) ≤ length m
-  pub within : t ≤ length m
-
-pub section-known : (mode : Mode) (m : List ℕ) (start : ℕ) (ps : List PairAt) (t : ℕ) → at (read-aad-section mode) m start ≡ accepted ps t → Holds m start ps t
+pub section-known : (mode : Mode) (m : List ℕ) (start : ℕ) (ps : List PairAt) (t : ℕ) → at (read-aad-section mode) m start ≡ accepted ps t → Holds pair-here pair-end m (start + 4) ps t
 unfolding read-aad-section read-aad-of read-aad items-here
 section-known mode m start ps t e = by (eqb (x .0) 0) (x .3)
   where
     x : (n : ℕ) × (u : ℕ) × (at read-uint16 m start ≡ accepted n u) × (at (read-aad-of mode (eqb n 0) n) m u ≡ accepted ps t)
     x = un-bind _ uint16-tidy m start ps t e
 
-    by : (b : Bool) → at (read-aad-of mode b (x .0)) m (x .1) ≡ accepted ps t → Holds m start ps t
+    by : (b : Bool) → at (read-aad-of mode b (x .0)) m (x .1) ≡ accepted ps t → Holds pair-here pair-end m (start + 4) ps t
     by true q =
         let k = uint16-known m start (x .0) (x .1) (x .2) in
         let z = un-return [] m (x .1) ps t q in
@@ -105,7 +101,4 @@ section-known mode m start ps t e = by (eqb (x .0) 0) (x .3)
         let a = un-test 8 _ _ m (y .1) ps t (y .3) in
         let b = un-test 21 _ _ m (y .1) ps t (a .1) in
         let d = un-test 9 _ _ m (y .1) ps t (b .1) in
-        let run = all-known pair-kind m (y .0) (y .1) (omega arith) ps t (d .1) in
-        let from : y .1 ≡ start + 4 = omega arith in
-        let long : length ps ≡ y .0 = all-length pair-kind m (y .0) (y .1) (omega arith) ps t (d .1) in
-        record { are = rw long (run .are ∙ rw from); inside = λ _. rw (long, ← from, ← run .tail) (run .within); within = run .within }
+        all-hold pair-kind m (y .0) (y .1) (start + 4) (omega arith) (omega arith) ps t (d .1)

@@ -1,13 +1,13 @@
 -- Laws of items that stand one behind the other, of whatever kind; pairs and keys as entries. Assumes nothing.
 use mathlib.Core.Path.{_≡_, refl, sym, ap, ap₂, _∙_}
-use mathlib.Core.List.{List, [], _∷_, _++_, append-assoc}
+use mathlib.Core.List.{List, [], _∷_, _++_}
 use Prim.Native.Nat.{ℕ, zero, suc, _+_, _*_, _-_, _≤_, _<_}
 use native.Mathlib.Nat.{le-refl, le-trans, mul-suc, add-comm, zero-add, suc-add, mul-zero}
 use native.Mathlib.Omega.{arith}
 use lib.ListN.{length}
 use Rattle.format.specs.Serialize.{Part, images}
-use Rattle.format.specs.Fields.{PairAt, EncryptedDataKeyAt, pair-places, key-places}
-use Rattle.entries.specs.Places.{items-here, items-end, entries-here, entries-end, pair-here, pair-end, pairs-here, pairs-end, key-here, key-end, keys-here, keys-end}
+use Rattle.format.specs.Fields.{pair-places, key-places}
+use Rattle.entries.specs.Places.{items-here, items-end, entries-here, entries-end, pair-here, pair-end, key-here, key-end}
 
 pub one-less : (n i : ℕ) → i < n → n - i ≡ suc (n - (i + 1))
 one-less n i h = omega arith
@@ -58,33 +58,27 @@ module _ {A : Type 0} (here : List ℕ → ℕ → A) (end : List ℕ → ℕ �
 times : (k n : ℕ) → k * suc n ≡ k + k * n
 times k n = mul-suc k n ∙ add-comm (k * n) k
 
-module _ (k : ℕ) (end : List ℕ → ℕ → ℕ) (m : List ℕ) (ends : (s : ℕ) → end m s ≡ entries-end m k s) where
-  end-entries : (n s : ℕ) → items-end end m n s ≡ entries-end m (k * n) s
+pub record Made {A : Type 0} (here : List ℕ → ℕ → A) (end : List ℕ → ℕ → ℕ) (places : A → List Part) (k : ℕ) : Type 0 where
+  pub ends : (m : List ℕ) (s : ℕ) → end m s ≡ entries-end m k s
+  pub are : (m : List ℕ) (s : ℕ) → places (here m s) ≡ entries-here m k s
+
+module _ {A : Type 0} {here : List ℕ → ℕ → A} {end : List ℕ → ℕ → ℕ} {places : A → List Part} {k : ℕ} (made : Made here end places k) (m : List ℕ) where
+  pub end-entries : (n s : ℕ) → items-end end m n s ≡ entries-end m (k * n) s
   unfolding items-end
   end-entries zero s = sym (ap (λ (i : ℕ). entries-end m i s) (mul-zero k))
-  end-entries (suc n) s = ap (items-end end m n) (ends s) ∙ end-entries n (entries-end m k s) ∙ sym (ap (λ (i : ℕ). entries-end m i s) (times k n) ∙ end-join _ m k (k * n) s)
+  end-entries (suc n) s = ap (items-end end m n) (made .ends m s) ∙ end-entries n (entries-end m k s) ∙ sym (ap (λ (i : ℕ). entries-end m i s) (times k n) ∙ end-join _ m k (k * n) s)
 
-  here-entries : {A : Type 0} (here : List ℕ → ℕ → A) (places : A → List Part) → ((s : ℕ) → places (here m s) ≡ entries-here m k s)
-      → (n s : ℕ) → images places (items-here here end m n s) ≡ entries-here m (k * n) s
+  pub here-entries : (n s : ℕ) → images places (items-here here end m n s) ≡ entries-here m (k * n) s
   unfolding items-here images
-  here-entries here places are zero s = sym (ap (λ (i : ℕ). entries-here m i s) (mul-zero k))
-  here-entries here places are (suc n) s =
-      ap₂ _++_ (are s) (ap (λ (t : ℕ). images places (items-here here end m n t)) (ends s) ∙ here-entries here places are n (entries-end m k s))
+  here-entries zero s = sym (ap (λ (i : ℕ). entries-here m i s) (mul-zero k))
+  here-entries (suc n) s =
+      ap₂ _++_ (made .are m s) (ap (λ (t : ℕ). images places (items-here here end m n t)) (made .ends m s) ∙ here-entries n (entries-end m k s))
       ∙ sym (ap (λ (i : ℕ). entries-here m i s) (times k n) ∙ here-join _ _ m k (k * n) s)
 
-module _ (m : List ℕ) (n s : ℕ) where
-  pub pairs-end-entries : pairs-end m n s ≡ entries-end m (2 * n) s
-  unfolding items-end
-  pairs-end-entries = end-entries 2 pair-end m (λ s. refl) n s
+pub pairs-made : Made pair-here pair-end pair-places 2
+unfolding items-end items-here
+pairs-made = record { ends = λ m s. refl; are = λ m s. refl }
 
-  pub pairs-are-entries : images pair-places (pairs-here m n s) ≡ entries-here m (2 * n) s
-  unfolding items-end items-here
-  pairs-are-entries = here-entries 2 pair-end m (λ s. refl) pair-here pair-places (λ s. refl) n s
-
-  pub keys-end-entries : keys-end m n s ≡ entries-end m (3 * n) s
-  unfolding items-end
-  keys-end-entries = end-entries 3 key-end m (λ s. refl) n s
-
-  pub keys-are-entries : images key-places (keys-here m n s) ≡ entries-here m (3 * n) s
-  unfolding items-end items-here
-  keys-are-entries = here-entries 3 key-end m (λ s. refl) key-here key-places (λ s. refl) n s
+pub keys-made : Made key-here key-end key-places 3
+unfolding items-end items-here
+keys-made = record { ends = λ m s. refl; are = λ m s. refl }

@@ -2,3 +2,4 @@ pub mod Answers
 pub mod Items
 pub mod Walk
 pub mod Tables
+pub mod Sections

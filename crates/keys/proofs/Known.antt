@@ -1,9 +1,8 @@
 -- A key that was read is what stands there, and so is a section. Assumes nothing.
-use mathlib.Core.Path.{_≡_, refl, sym, ap, _∙_}
-use mathlib.Core.List.{List, []}
-use Prim.Native.Nat.{ℕ, _+_, _≤_}
+use mathlib.Core.Path.{_≡_, ap, _∙_}
+use mathlib.Core.List.{List}
+use Prim.Native.Nat.{ℕ, _+_}
 use native.Mathlib.Omega.{arith}
-use lib.ListN.{length}
 use Rattle.format.specs.Read.{accepted, at}
 use Rattle.format.specs.Serialize.{Part}
 use Rattle.format.specs.Fields.{EncryptedDataKeyAt}
@@ -13,8 +12,9 @@ use Rattle.steps.proofs.Tidy.{Tidy, tidy, uint16-tidy, entry-tidy, text-tidy}
 use Rattle.steps.proofs.Steps.{un-bind, un-test, un-return}
 use Rattle.steps.proofs.Numbers.{uint16-known}
 use Rattle.steps.proofs.Entries.{entry-known, text-known}
-use Rattle.entries.specs.Places.{key-here, key-end, keys-here, keys-end}
-use Rattle.entries.proofs.Walk.{Known, Kind, all-known, all-length}
+use Rattle.entries.specs.Places.{key-here, key-end}
+use Rattle.entries.proofs.Walk.{Known, Kind}
+use Rattle.entries.proofs.Sections.{Holds, all-hold}
 use Rattle.keys.specs.Codes.{any-key}
 
 pub key-tidy : Tidy read-encrypted-data-key
@@ -50,17 +50,10 @@ pub key-kind : Kind any-key key-here key-end
 key-kind = record { tidy = λ acc. key-tidy; known = λ acc. key-known }
 
 -- an accepted section: its keys stand from the third byte on
-pub record Holds (m : List ℕ) (start : ℕ) (ks : List EncryptedDataKeyAt) (t : ℕ) : Type 0 where
-  pub are : ks ≡ keys-here m (length ks) (start + 2)
-  pub inside : keys-end m (length ks) (start + 2) ≤ length m
-  pub within : t ≤ length m
-
-pub section-known : (max : Max) (m : List ℕ) (start : ℕ) (ks : List EncryptedDataKeyAt) (t : ℕ) → at (read-encrypted-data-keys-section max) m start ≡ accepted ks t → Holds m start ks t
+pub section-known : (max : Max) (m : List ℕ) (start : ℕ) (ks : List EncryptedDataKeyAt) (t : ℕ) → at (read-encrypted-data-keys-section max) m start ≡ accepted ks t → Holds key-here key-end m (start + 2) ks t
 unfolding read-encrypted-data-keys-section
 section-known max m start ks t e =
     let x = un-bind _ uint16-tidy m start ks t e in
     let c = uint16-known m start (x .0) (x .1) (x .2) in
     let y = un-test 15 _ _ m (x .1) ks t (x .3) in
-    let run = all-known key-kind m (x .0) (x .1) (omega arith) ks t (y .1) in
-    let long : length ks ≡ x .0 = all-length key-kind m (x .0) (x .1) (omega arith) ks t (y .1) in
-    record { are = rw long (run .are ∙ rw (c .tail)); inside = rw (long, ← c .tail, ← run .tail) (run .within); within = run .within }
+    all-hold key-kind m (x .0) (x .1) (start + 2) (c .tail) (omega arith) ks t (y .1)
