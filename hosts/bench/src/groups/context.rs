@@ -56,6 +56,10 @@ pub fn rows(table: &mut Table) {
         let what = format!("context write, {}, shuffled", counted(count));
         write(table, &what, &lists(count, shuffled));
     }
+    let (count, lengths) = SIZES[SIZES.len() - 1];
+    let descending = |random: &mut Random| pairs(random, count, lengths, Order::Descending);
+    let what = format!("context write, {}, descending", counted(count));
+    write(table, &what, &lists(count, descending));
     write(table, "context write, a value of 60,000", &lists(200, long));
     write(table, "context write, empty", &lists(1, |_| Vec::new()));
 }
