@@ -183,26 +183,27 @@ static void write_bodies(void)
     static const HeaderNumbers n = {1, 0x80, 0x0178, 2, 12, 4096};
     static const HeaderNumbers n2 = {2, 0, 0x0578, 1, 0, 0}, wide = {1, 0x80, 0x0378, 2, 12, 0xFEDCBA98u};
     static const uint64_t want[15] = {0, 0, 2, 0, 0x0578, 3, 32, 1, 0, 1, 0, 0, 56, 32, 88};
-    HeaderNumbers x;
+    /* H's numbers, with one of them wrong */
+    static const struct {
+        const char *what;
+        HeaderNumbers numbers;
+        uint64_t number;
+    } refusals[] = {{"version", {3, 0x80, 0x0178, 2, 12, 4096}, HEADER_VERSION},
+                    {"type", {1, 0x81, 0x0178, 2, 12, 4096}, HEADER_MESSAGE_TYPE},
+                    {"suite", {1, 0x80, 0x7801, 2, 12, 4096}, HEADER_UNKNOWN_SUITE},
+                    {"suite of version 2", {1, 0x80, 0x0478, 2, 12, 4096}, HEADER_SUITE_OF_OTHER_VERSION},
+                    {"content type", {1, 0x80, 0x0178, 3, 12, 4096}, HEADER_CONTENT_TYPE},
+                    {"IV length", {1, 0x80, 0x0178, 2, 13, 4096}, HEADER_IV_LENGTH},
+                    {"frame length", {1, 0x80, 0x0178, 2, 12, 0}, HEADER_FRAME_LENGTH}};
     HeaderWritten w;
+    size_t i;
     write_with("H written", n, 16, 58, 0);
     output_is("H written", H, 58);
     write_with("an output of 57", n, 16, 57, HEADER_OUTPUT_TOO_SHORT);
     write_with("an ID of 15", n, 15, BYTES, HEADER_ID_LENGTH);
-    x = n, x.version = 3;
-    write_with("version", x, 16, BYTES, HEADER_VERSION);
-    x = n, x.messageType = 0x81;
-    write_with("type", x, 16, BYTES, HEADER_MESSAGE_TYPE);
-    x = n, x.suite = 0x7801;
-    write_with("suite", x, 16, BYTES, HEADER_UNKNOWN_SUITE);
-    x = n, x.suite = 0x0478;
-    write_with("suite of version 2", x, 16, BYTES, HEADER_SUITE_OF_OTHER_VERSION);
-    x = n, x.contentType = 3;
-    write_with("content type", x, 16, BYTES, HEADER_CONTENT_TYPE);
-    x = n, x.headerIvLength = 13;
-    write_with("IV length", x, 16, BYTES, HEADER_IV_LENGTH);
-    x = n, x.frameLength = 0;
-    write_with("frame length", x, 16, BYTES, HEADER_FRAME_LENGTH);
+    for (i = 0; i < COUNT(refusals); i++) {
+        write_with(refusals[i].what, refusals[i].numbers, 16, BYTES, refusals[i].number);
+    }
     write_with("a wide frame length", wide, 16, BYTES, 0);
     same_bytes("a wide frame length", out + 54, "\xFE\xDC\xBA\x98", 4);
     same_bytes("another suite", out + 2, "\x03\x78", 2);

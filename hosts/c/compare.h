@@ -26,7 +26,7 @@ typedef char offsets[(offsetof(HeaderAuth, iv) == 24 && offsetof(HeaderAuth, tag
 
 static unsigned long cases, differences;
 
-static void same(const char *what, uint64_t got, uint64_t want)
+static inline void same(const char *what, uint64_t got, uint64_t want)
 {
     cases++;
     if (got != want) {
@@ -35,7 +35,7 @@ static void same(const char *what, uint64_t got, uint64_t want)
     }
 }
 
-static void same_bytes(const char *what, const void *got, const void *want, size_t n)
+static inline void same_bytes(const char *what, const void *got, const void *want, size_t n)
 {
     same(what, (uint64_t)(memcmp(got, want, n) == 0), 1);
 }
@@ -52,7 +52,7 @@ static const uint32_t H_keys[6] = {38, 2, 42, 1, 45, 3};
 static uint32_t pairs[NUMBERS], keys[NUMBERS], fresh_numbers[NUMBERS];
 static uint8_t out[BYTES], fresh_bytes[BYTES];
 
-static void fresh(void)
+static inline void fresh(void)
 {
     size_t i;
     for (i = 0; i < NUMBERS; i++) {
@@ -65,20 +65,20 @@ static void fresh(void)
 }
 
 /* a table that begins with n numbers, and keeps the others */
-static void table_is(const char *what, const uint32_t *table, const uint32_t *front, size_t n)
+static inline void table_is(const char *what, const uint32_t *table, const uint32_t *front, size_t n)
 {
     same_bytes(what, table, front, n * sizeof *table);
     same_bytes(what, table + n, fresh_numbers + n, (NUMBERS - n) * sizeof *table);
 }
 
 /* an output that begins with n bytes, and keeps the others */
-static void output_is(const char *what, const uint8_t *front, size_t n)
+static inline void output_is(const char *what, const uint8_t *front, size_t n)
 {
     same_bytes(what, out, front, n);
     same_bytes(what, out + n, fresh_bytes + n, BYTES - n);
 }
 
-static void written_is(const char *what, HeaderWritten w, uint64_t number, uint64_t length)
+static inline void written_is(const char *what, HeaderWritten w, uint64_t number, uint64_t length)
 {
     same(what, w.number, number);
     same(what, w.length, length);

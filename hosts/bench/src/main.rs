@@ -1,5 +1,5 @@
 //! Speed as ratios, ours against others in one run:
-//! `cargo run --release -p bench -- GROUP..`
+//! `cargo run --release -p bench -- GROUP..`, all groups where none is named.
 //!
 //! A command and no test, since a time depends on what else runs.
 #![forbid(unsafe_code)]
@@ -15,8 +15,8 @@ use table::Table;
 fn main() -> ExitCode {
     let wanted: Vec<String> = std::env::args().skip(1).collect();
     let known = |name: &String| groups::GROUPS.iter().any(|group| group.0 == name);
-    if wanted.is_empty() || !wanted.iter().all(known) {
-        eprintln!("name one group or more of:");
+    if !wanted.iter().all(known) {
+        eprintln!("the groups are:");
         for (name, what, _) in groups::GROUPS {
             eprintln!("  {name}  {what}");
         }
@@ -24,7 +24,7 @@ fn main() -> ExitCode {
     }
     let mut table = Table::begin();
     for (name, _, rows) in groups::GROUPS {
-        if wanted.iter().any(|wanted| wanted == name) {
+        if wanted.is_empty() || wanted.iter().any(|wanted| wanted == name) {
             rows(&mut table);
         }
     }

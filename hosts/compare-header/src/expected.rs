@@ -2,19 +2,14 @@
 
 use crate::numbers::Answer;
 use generator::Expected;
-use std::fmt::Debug;
 
 /// The answer is the one the damage decides, if it decides one.
-pub fn as_expected<T: Debug>(seed: u64, answer: &Answer<T>, expected: Expected) {
-    let agrees = match (expected, answer) {
-        (Expected::Open, _) => true,
-        (Expected::Accepted, answer) => answer.is_ok(),
-        (Expected::Refused(number, position), Err(refusal)) => {
-            (refusal.number, refusal.position) == (number, position)
-        }
-        (Expected::Refused(..), Ok(_)) => false,
-    };
-    assert!(agrees, "seed {seed}: expected {expected:?}, got {answer:?}");
+pub fn as_expected<T>(seed: u64, answer: &Answer<T>, expected: Expected) {
+    let refusal = answer.as_ref().err();
+    expected.assert_met(
+        seed,
+        refusal.map(|refusal| (refusal.number, refusal.position)),
+    );
 }
 
 /// The parts at a table's places, in order, are these.

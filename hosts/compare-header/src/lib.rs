@@ -7,7 +7,6 @@
 
 pub mod expected;
 pub mod guarded;
-pub mod headers;
 pub mod numbers;
 pub mod reads;
 pub mod scale;

@@ -2,21 +2,28 @@
 
 use std::ops::Range;
 
-/// The environment variable `HEADER_CASES` is a factor, a whole number from 1
-/// on: with 10 each generated comparison takes ten times its requests, and so
-/// its time. Without it the whole takes about a minute on one core.
-pub fn factor() -> u64 {
+/// The comparisons that all generated tests make together by the counts that
+/// they name. It takes about a minute on one core.
+const BY_DEFAULT: u64 = 14_000_000;
+
+/// With fewer than these, a rare refusal may not come about, and the tests
+/// want each that an operation lists.
+const LEAST: u64 = 2_000_000;
+
+/// The environment variable `HEADER_CASES` says about how many comparisons
+/// all generated tests are to make together.
+fn asked() -> u64 {
     match std::env::var("HEADER_CASES") {
         Ok(text) => text
             .parse()
             .ok()
-            .filter(|&factor| factor > 0)
-            .unwrap_or_else(|| panic!("HEADER_CASES is {text:?}, not a number from 1 on")),
-        Err(_) => 1,
+            .filter(|&cases| cases >= LEAST)
+            .unwrap_or_else(|| panic!("HEADER_CASES is {text:?}, not a number from {LEAST} on")),
+        Err(_) => BY_DEFAULT,
     }
 }
 
-/// The seeds of a comparison that takes `count` requests at factor 1.
+/// The seeds of a test that takes `count` requests by default.
 pub fn seeds(count: u64) -> Range<u64> {
-    0..count * factor()
+    0..(u128::from(count) * u128::from(asked()) / u128::from(BY_DEFAULT)) as u64
 }

@@ -1,8 +1,8 @@
 //! Sample headers cut at every offset, with every byte replaced by every
 //! other, and read from starts up to the ends of 64 bits.
 
-use compare_header::headers::samples;
 use compare_header::{compared, reads};
+use generator::headers::samples;
 use header::{Mode, Request, Which};
 
 const REQUESTS: [Request; 6] = [

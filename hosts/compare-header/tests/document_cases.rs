@@ -1,9 +1,9 @@
 //! The cases of document 01, with the answers it gives: the unmarked ones,
 //! and the marked ones beside them.
 
-use compare_header::headers::{header_h, header_h_with, hex};
 use compare_header::numbers::Answer;
 use compare_header::{compared, reads, writes};
+use generator::headers::{header_h, header_h_refused, header_h_with, hex};
 use header::{Mode, Request, Section, Which};
 
 /// Count and tail, or number and position.
@@ -95,21 +95,13 @@ fn keys() {
 fn header_h_whole_cut_and_moved() {
     let h = header_h();
     let (today, old) = (header_h_with("00 00"), header_h_with("00 02 00 00"));
-    let rows: [(&[u8], u64, (u32, u64)); 9] = [
-        (&h, 0, (0, 58)),
-        (&today, 0, (0, 46)),
-        (&old, 0, (0, 48)),
-        (&h[..57], 0, (2, 58)),
-        (&h[..22], 0, (2, 34)),
-        (&h, 70, (2, 71)),
-        (&[], 0, (2, 1)),
-        (&h, 4_294_967_295, (2, 4_294_967_296)),
-        (&h, 4_294_967_296, (1, 0)),
-    ];
-    for (message, start, wanted) in rows {
-        assert_eq!(reads::host_answer(message, start), wanted);
+    let accepted = [(h, 0, (0, 58)), (today, 0, (0, 46)), (old, 0, (0, 48))];
+    let mut count = 0;
+    for (message, start, wanted) in accepted.into_iter().chain(header_h_refused()) {
+        assert_eq!(reads::host_answer(&message, start), wanted);
+        count += 1;
     }
-    compared(rows.len() as u64, "headers of document 01");
+    compared(count, "headers of document 01");
 }
 
 /// A frame length that doesn't go with the content type: 20 by the reader of

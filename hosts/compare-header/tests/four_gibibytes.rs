@@ -1,9 +1,8 @@
-//! Messages at the greatest length and one byte above it. The pages of a
-//! zeroed vector take no memory until they are written to.
+//! Messages at the greatest length and one byte above it.
 
-use compare_header::headers::header_h;
 use compare_header::numbers::number;
 use compare_header::{compared, reads};
+use generator::headers::header_h_at_four_gibibytes;
 use header::{Mode, Request, Which};
 
 const GREATEST: usize = u32::MAX as usize;
@@ -27,16 +26,8 @@ fn every_reader(message: &[u8], start: u64) -> [u32; 6] {
 
 #[test]
 fn messages_of_four_gibibytes() {
-    let mut probe: Vec<u8> = Vec::new();
-    assert!(
-        probe.try_reserve_exact(GREATEST + 1).is_ok(),
-        "no room for the message"
-    );
-    drop(probe);
-    let mut message = vec![0u8; GREATEST + 1];
-    let h = header_h();
-    let at = GREATEST - h.len();
-    message[at..GREATEST].copy_from_slice(&h);
+    let message = header_h_at_four_gibibytes();
+    let at = GREATEST - 58;
     let starts = [
         0,
         1,

@@ -8,7 +8,6 @@ use compare_header::writes::{self, BodyLent};
 use compare_header::{compared, Coverage};
 use generator::auth_cases::auth_write_case;
 use generator::body_write_cases::body_write_case;
-use generator::fields::Fields;
 use generator::write_cases::{write_keys_case, write_section_case};
 use generator::Expected;
 
@@ -53,17 +52,6 @@ fn key_sections() {
     compared(count, "writes of key sections");
 }
 
-fn wide(fields: &Fields) -> reference::Numbers {
-    reference::Numbers {
-        version: fields.version,
-        message_type: fields.message_type,
-        suite: fields.suite,
-        content_type: fields.content_type,
-        iv_length: fields.iv_length,
-        frame_length: fields.frame_length,
-    }
-}
-
 #[test]
 fn bodies() {
     let mut coverage = Coverage::default();
@@ -72,7 +60,7 @@ fn bodies() {
         let case = body_write_case(seed);
         let fields = &case.fields;
         // A number wider than its field can't be handed over.
-        let Some(numbers) = numbers(&wide(fields)) else {
+        let Some(numbers) = numbers(&fields.numbers().into()) else {
             too_wide += 1;
             continue;
         };

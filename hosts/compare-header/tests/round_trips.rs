@@ -12,15 +12,7 @@ use generator::tables::lend;
 use header::{Mode, Numbers, Request, Which};
 
 fn stored(fields: &Fields) -> Numbers {
-    numbers(&reference::Numbers {
-        version: fields.version,
-        message_type: fields.message_type,
-        suite: fields.suite,
-        content_type: fields.content_type,
-        iv_length: fields.iv_length,
-        frame_length: fields.frame_length,
-    })
-    .expect("these fields can be stored")
+    numbers(&fields.numbers().into()).expect("these fields can be stored")
 }
 
 /// Requests that take the version.

@@ -1,6 +1,6 @@
 //! Requests to read a header body.
 
-use crate::fields::{back, fields, frame_length, front, Fields, SUITES_V1, SUITES_V2};
+use crate::fields::{back, fields, frame_length, front, suite_of, Fields, SUITES_V1, SUITES_V2};
 use crate::image::Form;
 use crate::key_cases::{self, maximum};
 use crate::random::Random;
@@ -51,11 +51,8 @@ fn reader(random: &mut Random, version: u32) -> Reader {
 /// A number that is no suite's, often one byte from it.
 pub fn unknown_suite(random: &mut Random) -> u32 {
     loop {
-        let known = if random.one_in(3) {
-            random.pick(&SUITES_V2)
-        } else {
-            random.pick(&SUITES_V1)
-        };
+        let version = if random.one_in(3) { 2 } else { 1 };
+        let known = suite_of(random, version) as u16;
         let number = match random.below(5) {
             0 => known.swap_bytes(),
             1 => known ^ (1 << random.below(16)),
@@ -259,18 +256,12 @@ fn reserved(random: &mut Random, wrong: bool) -> [u8; 4] {
 
 /// Makes fields wrong by the numbers of the refusals they bring about.
 fn spoil(random: &mut Random, fields: &mut Fields, faults: &[u32]) {
-    let first = fields.version == 1;
     for &fault in faults {
         match fault {
             5 => fields.message_type = byte_but(random, &[0x80]),
             6 => fields.suite = unknown_suite(random),
             7 if !faults.contains(&6) => {
-                let other = if first {
-                    random.pick(&SUITES_V2)
-                } else {
-                    random.pick(&SUITES_V1)
-                };
-                fields.suite = u32::from(other);
+                fields.suite = suite_of(random, 3 - fields.version);
             }
             17 => fields.content_type = byte_but(random, &[1, 2]),
             19 => fields.iv_length = byte_but(random, &[12]),

@@ -1,7 +1,7 @@
 //! Requests to write a header body.
 
 use crate::body_cases::{byte_but, unknown_suite};
-use crate::fields::{fields, frame_length, Fields, SUITES_V1, SUITES_V2};
+use crate::fields::{fields, frame_length, suite_of, Fields};
 use crate::image::Form;
 use crate::random::Random;
 use crate::tables::{lend, Lent};
@@ -101,12 +101,7 @@ fn spoil(random: &mut Random, fields: &mut Fields, first: bool, fault: u32, faul
             }
         }
         7 if !faults.contains(&6) => {
-            let other = if first {
-                random.pick(&SUITES_V2)
-            } else {
-                random.pick(&SUITES_V1)
-            };
-            fields.suite = u32::from(other);
+            fields.suite = suite_of(random, if first { 2 } else { 1 });
         }
         17 => {
             fields.content_type = if wide {

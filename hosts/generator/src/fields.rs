@@ -53,6 +53,18 @@ pub fn back(fields: &Fields, reserved: [u8; 4]) -> Image {
 }
 
 impl Fields {
+    /// Version, type, suite, content type, IV length and frame length.
+    pub fn numbers(&self) -> [u32; 6] {
+        [
+            self.version,
+            self.message_type,
+            self.suite,
+            self.content_type,
+            self.iv_length,
+            self.frame_length,
+        ]
+    }
+
     /// The image with an empty context stored in the given form.
     pub fn image(&self, form: Form) -> Image {
         let mut image = front(self);
@@ -61,6 +73,14 @@ impl Fields {
         image.image(&back(self, [0; 4]));
         image
     }
+}
+
+/// A suite of version 1 or of version 2.
+pub fn suite_of(random: &mut Random, version: u32) -> u32 {
+    u32::from(match version {
+        1 => random.pick(&SUITES_V1),
+        _ => random.pick(&SUITES_V2),
+    })
 }
 
 /// A frame length that agrees with a content type.
@@ -140,11 +160,7 @@ pub fn fields(random: &mut Random) -> Fields {
     Fields {
         version,
         message_type: if first { 0x80 } else { 0 },
-        suite: u32::from(if first {
-            random.pick(&SUITES_V1)
-        } else {
-            random.pick(&SUITES_V2)
-        }),
+        suite: suite_of(random, version),
         id: random.bytes(if first { 16 } else { 32 }),
         pairs: pairs(random, 20),
         keys: keys(random, 12),

@@ -1,5 +1,6 @@
 //! Images, built by concatenation, with the ends of the reads they ask for.
 
+use crate::random::Random;
 use crate::{Key, Pair};
 
 /// Bytes, and the place where each read in turn ends. A message cut to `c`
@@ -96,4 +97,21 @@ pub fn keys_with(keys: &[Key], count: u16) -> Image {
 /// A key section as stored.
 pub fn keys(keys: &[Key]) -> Image {
     keys_with(keys, keys.len() as u16)
+}
+
+/// Changes the stored length of one of these entries, which stand one behind
+/// the other from `at` on, to a byte more or a byte less.
+pub fn entry_length_off(random: &mut Random, bytes: &mut [u8], mut at: usize, parts: &[&Vec<u8>]) {
+    let chosen = random.index(parts.len());
+    at += parts[..chosen]
+        .iter()
+        .map(|part| 2 + part.len())
+        .sum::<usize>();
+    let length = parts[chosen].len() as u16;
+    let wrong = if random.one_in(2) {
+        length.wrapping_add(1)
+    } else {
+        length.wrapping_sub(1)
+    };
+    bytes[at..at + 2].copy_from_slice(&wrong.to_be_bytes());
 }

@@ -1,7 +1,7 @@
 //! Requests to read a key section.
 
 use crate::fields;
-use crate::image::{keys, keys_with, Image};
+use crate::image::{entry_length_off, keys, keys_with, Image};
 use crate::random::Random;
 use crate::surroundings::{cut, flip_bits, start_past, start_too_large, table, whole};
 use crate::texts::bad_text;
@@ -68,7 +68,10 @@ pub fn build(random: &mut Random, kind: Kind) -> KeySection {
         Kind::BitFlips => flip_bits(random, &mut image.bytes),
         Kind::CountUp => image = keys_with(&list, count + 1),
         Kind::CountDown => image = keys_with(&list, count - 1),
-        Kind::EntryLength => entry_length_off(random, &mut image.bytes, &list),
+        Kind::EntryLength => {
+            let parts: Vec<_> = list.iter().flatten().collect();
+            entry_length_off(random, &mut image.bytes, 2, &parts)
+        }
         Kind::Noise => {
             let length = random.length(60);
             image.bytes = random.bytes(length);
@@ -80,24 +83,6 @@ pub fn build(random: &mut Random, kind: Kind) -> KeySection {
         keys: list,
         refused: (kind == Kind::BadProvider).then_some(16),
         open: !matches!(kind, Kind::Intact | Kind::BadProvider),
-    }
-}
-
-fn entry_length_off(random: &mut Random, bytes: &mut [u8], keys: &[Key]) {
-    let mut at = 2;
-    let chosen = random.index(3 * keys.len());
-    for (i, part) in keys.iter().flatten().enumerate() {
-        if i == chosen {
-            let length = part.len() as u16;
-            let wrong = if random.one_in(2) {
-                length.wrapping_add(1)
-            } else {
-                length.wrapping_sub(1)
-            };
-            bytes[at..at + 2].copy_from_slice(&wrong.to_be_bytes());
-            return;
-        }
-        at += 2 + part.len();
     }
 }
 

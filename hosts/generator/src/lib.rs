@@ -9,6 +9,7 @@ pub mod auth_cases;
 pub mod body_cases;
 pub mod body_write_cases;
 pub mod fields;
+pub mod headers;
 pub mod image;
 pub mod key_cases;
 pub mod many;
@@ -30,6 +31,19 @@ pub enum Expected {
     Refused(u32, u64),
     /// Not decided by construction.
     Open,
+}
+
+impl Expected {
+    /// The refusal, as number and position, or the acceptance is what the
+    /// damage decides, if it decides anything.
+    pub fn assert_met(self, seed: u64, refusal: Option<(u32, u64)>) {
+        let met = match self {
+            Expected::Open => true,
+            Expected::Accepted => refusal.is_none(),
+            Expected::Refused(number, position) => refusal == Some((number, position)),
+        };
+        assert!(met, "seed {seed}: expected {self:?}, got {refusal:?}");
+    }
 }
 
 /// A pair: key and value.

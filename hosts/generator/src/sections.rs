@@ -1,7 +1,7 @@
 //! Context sections, intact and damaged, with what the damage decides.
 
 use crate::fields;
-use crate::image::{pairs_length, section, section_with, Form, Image};
+use crate::image::{entry_length_off, pairs_length, section, section_with, Form, Image};
 use crate::random::Random;
 use crate::surroundings::flip_bits;
 use crate::texts::{bad_text, text, text_of};
@@ -221,7 +221,8 @@ pub fn build(random: &mut Random, kind: Kind) -> Section {
             verdict = Verdict::Refused(if count == 1 { 9 } else { 14 });
         }
         Kind::EntryLength => {
-            entry_length_off(random, &mut image.bytes, &pairs);
+            let parts: Vec<_> = pairs.iter().flat_map(|(key, value)| [key, value]).collect();
+            entry_length_off(random, &mut image.bytes, 4, &parts);
             verdict = Verdict::Open;
         }
         Kind::CountInEmpty => {
@@ -254,28 +255,5 @@ pub fn build(random: &mut Random, kind: Kind) -> Section {
         image,
         pairs,
         verdict,
-    }
-}
-
-/// One stored entry length a byte too long or too short.
-fn entry_length_off(random: &mut Random, bytes: &mut [u8], pairs: &[Pair]) {
-    let mut at = 4;
-    let chosen = random.index(2 * pairs.len());
-    for (i, part) in pairs
-        .iter()
-        .flat_map(|(key, value)| [key, value])
-        .enumerate()
-    {
-        if i == chosen {
-            let length = part.len() as u16;
-            let wrong = if random.one_in(2) {
-                length.wrapping_add(1)
-            } else {
-                length.wrapping_sub(1)
-            };
-            bytes[at..at + 2].copy_from_slice(&wrong.to_be_bytes());
-            return;
-        }
-        at += 2 + part.len();
     }
 }

@@ -16,3 +16,13 @@ impl Place {
         bytes.get(start..end)
     }
 }
+
+/// The places in a table, in order: two a pair, three a key. A number left
+/// over at the end is no place.
+#[inline]
+pub fn places(table: &[u32]) -> impl Iterator<Item = Place> + '_ {
+    table.chunks_exact(2).map(|place| Place {
+        start: place[0].into(),
+        len: place[1].into(),
+    })
+}

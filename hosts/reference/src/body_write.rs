@@ -18,6 +18,21 @@ pub struct Numbers {
     pub frame_length: u32,
 }
 
+impl From<[u32; 6]> for Numbers {
+    /// From the numbers in the order of the fields above.
+    fn from(list: [u32; 6]) -> Numbers {
+        let [version, message_type, suite, content_type, iv_length, frame_length] = list;
+        Numbers {
+            version,
+            message_type,
+            suite,
+            content_type,
+            iv_length,
+            frame_length,
+        }
+    }
+}
+
 impl Body {
     /// The numbers a writer needs to write this body again.
     pub fn numbers(&self) -> Numbers {

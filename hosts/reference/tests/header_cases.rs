@@ -2,19 +2,13 @@
 
 mod common;
 
-use common::{header_h, header_v2, hex, refusal, report};
+use common::{header_v2, refusal, report};
+use generator::headers::{header_h, header_h_refused, header_h_with};
 use reference::*;
 
 fn read(message: &[u8], start: u64, which: Which, mode: Mode) -> Result<Body, (u32, u64)> {
     let (mut pairs, mut keys) = ([0; 8], [0; 12]);
     read_header_body(message, start, which, mode, None, &mut pairs, &mut keys).map_err(refusal)
-}
-
-/// H with its context section replaced.
-fn with_section(section: &str) -> Vec<u8> {
-    let mut bytes = header_h();
-    bytes.splice(20..34, hex(section));
-    bytes
 }
 
 #[test]
@@ -54,21 +48,13 @@ fn header_h_is_read_whole() {
 
 #[test]
 fn header_h_cut_and_moved() {
-    let h = header_h();
-    let rows: [(&[u8], u64, (u32, u64)); 6] = [
-        (&h[..57], 0, (2, 58)),
-        (&h[..22], 0, (2, 34)),
-        (&h, 70, (2, 71)),
-        (&[], 0, (2, 1)),
-        (&h, 4_294_967_295, (2, 4_294_967_296)),
-        (&h, 4_294_967_296, (1, 0)),
-    ];
-    for (message, start, wanted) in rows {
+    let (h, rows) = (header_h(), header_h_refused());
+    for (message, start, wanted) in &rows {
         assert_eq!(
-            read(message, start, Which::Either, Mode::Tolerant),
-            Err(wanted)
+            read(message, *start, Which::Either, Mode::Tolerant),
+            Err(*wanted)
         );
-        assert_eq!(host_answer(message, start), wanted);
+        assert_eq!(host_answer(message, *start), *wanted);
     }
     // Every cut: the end of the read that meets it, in order.
     let stops = [
@@ -91,8 +77,8 @@ fn header_h_cut_and_moved() {
 
 #[test]
 fn an_empty_context_has_two_forms() {
-    let today = with_section("00 00");
-    let old = with_section("00 02 00 00");
+    let today = header_h_with("00 00");
+    let old = header_h_with("00 02 00 00");
     assert_eq!((today.len(), old.len()), (46, 48));
     let mut compared = 0;
     for which in [Which::Either, Which::V1] {

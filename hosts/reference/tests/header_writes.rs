@@ -2,7 +2,8 @@
 
 mod common;
 
-use common::{header_h, header_v2, refusal, report};
+use common::{header_v2, refusal, report};
+use generator::headers::header_h;
 use reference::*;
 
 fn read(message: &[u8], start: u64, which: Which, mode: Mode) -> Result<Body, (u32, u64)> {

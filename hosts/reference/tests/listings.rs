@@ -2,8 +2,9 @@
 
 mod common;
 
-use common::{header_h, hex, report};
+use common::report;
 use generator::fields::{fields, Fields};
+use generator::headers::{header_h, hex};
 use generator::image::Form;
 use generator::random::Random;
 use reference::{host_answer, listing};

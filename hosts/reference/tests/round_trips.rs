@@ -11,20 +11,9 @@ use generator::sections::stretch;
 use generator::tables::lend;
 use reference::*;
 
-fn numbers(fields: &Fields) -> Numbers {
-    Numbers {
-        version: fields.version,
-        message_type: fields.message_type,
-        suite: fields.suite,
-        content_type: fields.content_type,
-        iv_length: fields.iv_length,
-        frame_length: fields.frame_length,
-    }
-}
-
 /// The fields at the places of a body that was read.
 fn gives(fields: &Fields, message: &[u8], body: &Body, pairs: &[u32], keys: &[u32]) {
-    assert_eq!(body.numbers(), numbers(fields));
+    assert_eq!(body.numbers(), Numbers::from(fields.numbers()));
     assert_eq!(body.id.within(message), Some(&fields.id[..]));
     assert_eq!(
         body.suite_data.within(message),
@@ -58,7 +47,7 @@ fn written_then_read() {
         let mut message = random.bytes(before + image.len() + behind);
         let kept = message.clone();
         let length = write_header_body(
-            &numbers(&fields),
+            &Numbers::from(fields.numbers()),
             &fields.id,
             &fields.suite_data,
             &lent.text,

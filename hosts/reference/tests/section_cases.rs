@@ -2,7 +2,8 @@
 
 mod common;
 
-use common::{hex, refusal, report};
+use common::{refusal, report};
+use generator::headers::hex;
 use reference::*;
 
 /// An answer as the rows write it: pairs or keys and the tail, or a refusal.

@@ -2,7 +2,8 @@
 
 mod common;
 
-use common::{hex, refusal, report};
+use common::{refusal, report};
+use generator::headers::hex;
 use reference::*;
 
 /// A table, the output's length, and the image or the refusal.

@@ -1,25 +1,17 @@
-//! Messages at the greatest length, and above it. The pages of a zeroed
-//! vector take no memory until they are written to.
+//! Messages at the greatest length, and above it.
 
 mod common;
 
-use common::{header_h, report};
+use common::report;
+use generator::headers::header_h_at_four_gibibytes;
 use reference::*;
 
 const GREATEST: usize = u32::MAX as usize;
 
 #[test]
 fn messages_of_four_gibibytes() {
-    let mut probe: Vec<u8> = Vec::new();
-    assert!(
-        probe.try_reserve_exact(GREATEST + 1).is_ok(),
-        "no room for the message"
-    );
-    drop(probe);
-    let mut message = vec![0u8; GREATEST + 1];
-    let h = header_h();
-    let at = GREATEST - h.len();
-    message[at..GREATEST].copy_from_slice(&h);
+    let message = header_h_at_four_gibibytes();
+    let at = GREATEST - 58;
 
     // One byte too long: nothing is read, whatever the start.
     let too_large = Refusal {

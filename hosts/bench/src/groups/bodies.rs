@@ -95,14 +95,7 @@ fn write(table: &mut Table, what: &str, fields: &Fields) {
         iv_length: 12,
         frame_length: 4_096,
     };
-    let wide = reference::Numbers {
-        version: fields.version,
-        message_type: fields.message_type,
-        suite: fields.suite,
-        content_type: fields.content_type,
-        iv_length: fields.iv_length,
-        frame_length: fields.frame_length,
-    };
+    let wide = reference::Numbers::from(fields.numbers());
     let times = agreed(
         1,
         |_| {

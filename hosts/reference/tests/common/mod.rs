@@ -3,6 +3,7 @@
 
 pub mod plain;
 
+use generator::headers::hex;
 use reference::{Mode, Refusal};
 
 pub fn mode(strict: bool) -> Mode {
@@ -11,26 +12,6 @@ pub fn mode(strict: bool) -> Mode {
     } else {
         Mode::Tolerant
     }
-}
-
-/// Bytes from hexadecimal digits; anything else only separates.
-pub fn hex(text: &str) -> Vec<u8> {
-    let digits: Vec<u8> = text
-        .chars()
-        .filter_map(|c| c.to_digit(16))
-        .map(|digit| digit as u8)
-        .collect();
-    digits.chunks(2).map(|two| two[0] << 4 | two[1]).collect()
-}
-
-/// The header of the scope's whole example, 58 bytes.
-pub fn header_h() -> Vec<u8> {
-    let mut bytes = hex("01 80 01 78");
-    bytes.extend(0..16u8);
-    bytes.extend(hex("00 0C 00 01 00 04 6C 61 6E 67 00 02 63 79"));
-    bytes.extend(hex("00 01 00 02 70 31 00 01 61 00 03 AA BB CC"));
-    bytes.extend(hex("02 00 00 00 00 0C 00 00 10 00"));
-    bytes
 }
 
 /// A header of version 2 with an empty context and one key; 85 bytes.

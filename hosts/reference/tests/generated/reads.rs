@@ -1,7 +1,7 @@
 //! The readers on generated requests.
 
 use crate::common::plain::{self, Buffer, No, Part};
-use crate::common::{key_parts, mode, pair_parts, parts};
+use crate::common::{key_parts, mode, pair_parts, parts, refusal};
 use generator::auth_cases::auth_case;
 use generator::body_cases::{body_case, BodyCase, Reader};
 use generator::key_cases::key_case;
@@ -11,16 +11,8 @@ use reference::*;
 use report::Coverage;
 
 /// The answer is the one the damage decides, if it decides one.
-pub fn as_expected<T: std::fmt::Debug>(seed: u64, answer: &Result<T, Refusal>, expected: Expected) {
-    let agrees = match (expected, answer) {
-        (Expected::Open, _) => true,
-        (Expected::Accepted, answer) => answer.is_ok(),
-        (Expected::Refused(number, position), Err(refusal)) => {
-            (refusal.number, refusal.position) == (number, position)
-        }
-        (Expected::Refused(..), Ok(_)) => false,
-    };
-    assert!(agrees, "seed {seed}: expected {expected:?}, got {answer:?}");
+pub fn as_expected<T>(seed: u64, answer: &Result<T, Refusal>, expected: Expected) {
+    expected.assert_met(seed, no(answer));
 }
 
 /// The refusal's number, 0 where there is none.
@@ -46,6 +38,40 @@ fn table_is(seed: u64, before: &[u32], after: &[u32], filled: Option<&[Part]>) {
     assert_eq!(wanted, after, "seed {seed}: table");
 }
 
+/// A section as both read it, with the table before and after: `read` gives
+/// count and tail, `plain` the parts and the tail; `numbers` a pair or key
+/// takes in the table. Answers how many numbers were filled.
+fn section(
+    seed: u64,
+    tables: [&[u32]; 2],
+    numbers: usize,
+    read: Result<(u32, u64), No>,
+    plain: Result<(Vec<Part>, u64), No>,
+) -> usize {
+    let [before, after] = tables;
+    let filled = plain.as_ref().ok().map(|(parts, _)| parts.as_slice());
+    table_is(seed, before, after, filled);
+    let numbers = read.map_or(0, |(count, _)| numbers * count as usize);
+    assert_eq!(numbers, 2 * filled.map_or(0, <[Part]>::len), "seed {seed}");
+    let tail = plain.map(|(_, tail)| tail);
+    assert_eq!(read.map(|(_, tail)| tail), tail, "seed {seed}");
+    numbers
+}
+
+/// The parts that a buffer gives and where they end; or the refusal of a
+/// table that is too short for them.
+fn within(
+    parts: Vec<Part>,
+    buffer: &Buffer,
+    table: &[u32],
+    number: u32,
+) -> Result<(Vec<Part>, u64), No> {
+    if table.len() < 2 * parts.len() {
+        return Err((number, 0));
+    }
+    Ok((parts, buffer.start as u64))
+}
+
 pub fn sections(coverage: &mut Coverage) -> u64 {
     const SEEDS: u64 = 200_000;
     for seed in 0..SEEDS {
@@ -62,29 +88,14 @@ pub fn sections(coverage: &mut Coverage) -> u64 {
 
         let plain = Buffer::new(&case.message, case.start).and_then(|mut buffer| {
             let parts = plain::section(&mut buffer, case.strict)?;
-            if case.table.len() < 2 * parts.len() {
-                return Err((22, 0));
-            }
-            Ok((parts, buffer.start as u64))
+            within(parts, &buffer, &case.table, 22)
         });
-        assert_eq!(no(&answer), plain.as_ref().err().copied(), "seed {seed}");
-        table_is(
-            seed,
-            &case.table,
-            &table,
-            plain.as_ref().ok().map(|(parts, _)| parts.as_slice()),
-        );
-        if let (Ok(read), Ok((filled, tail))) = (&answer, &plain) {
-            assert_eq!(
-                (2 * read.pairs as usize, read.tail),
-                (filled.len(), *tail),
-                "seed {seed}"
-            );
-            if case.expected == Expected::Accepted {
-                assert_eq!(read.tail, case.end, "seed {seed}");
-                let got = parts(&case.message, &table[..4 * read.pairs as usize]);
-                assert_eq!(got, pair_parts(&case.pairs), "seed {seed}");
-            }
+        let read = answer.map(|read| (read.pairs, read.tail)).map_err(refusal);
+        let filled = section(seed, [&case.table, &table], 4, read, plain);
+        if case.expected == Expected::Accepted {
+            assert_eq!(read.map(|(_, tail)| tail), Ok(case.end), "seed {seed}");
+            let got = parts(&case.message, &table[..filled]);
+            assert_eq!(got, pair_parts(&case.pairs), "seed {seed}");
         }
         finds(seed, &case, coverage);
     }
@@ -140,29 +151,14 @@ pub fn keys(coverage: &mut Coverage) -> u64 {
 
         let plain = Buffer::new(&case.message, case.start).and_then(|mut buffer| {
             let parts = plain::keys(&mut buffer, case.max)?;
-            if case.table.len() < 2 * parts.len() {
-                return Err((23, 0));
-            }
-            Ok((parts, buffer.start as u64))
+            within(parts, &buffer, &case.table, 23)
         });
-        assert_eq!(no(&answer), plain.as_ref().err().copied(), "seed {seed}");
-        table_is(
-            seed,
-            &case.table,
-            &table,
-            plain.as_ref().ok().map(|(parts, _)| parts.as_slice()),
-        );
-        if let (Ok(read), Ok((filled, tail))) = (&answer, &plain) {
-            assert_eq!(
-                (3 * read.keys as usize, read.tail),
-                (filled.len(), *tail),
-                "seed {seed}"
-            );
-            if case.expected == Expected::Accepted {
-                assert_eq!(read.tail, case.end, "seed {seed}");
-                let got = parts(&case.message, &table[..6 * read.keys as usize]);
-                assert_eq!(got, key_parts(&case.keys), "seed {seed}");
-            }
+        let read = answer.map(|read| (read.keys, read.tail)).map_err(refusal);
+        let filled = section(seed, [&case.table, &table], 6, read, plain);
+        if case.expected == Expected::Accepted {
+            assert_eq!(read.map(|(_, tail)| tail), Ok(case.end), "seed {seed}");
+            let got = parts(&case.message, &table[..filled]);
+            assert_eq!(got, key_parts(&case.keys), "seed {seed}");
         }
     }
     SEEDS

@@ -4,7 +4,6 @@ use crate::common::plain::{self, No};
 use crate::reads::{as_expected, number};
 use generator::auth_cases::auth_write_case;
 use generator::body_write_cases::body_write_case;
-use generator::fields::Fields;
 use generator::write_cases::{write_keys_case, write_section_case, WriteCase};
 use generator::Expected;
 use reference::*;
@@ -79,36 +78,15 @@ pub fn keys(coverage: &mut Coverage) -> u64 {
     SEEDS
 }
 
-/// The numbers of fields, for the writer and for the second opinion.
-fn numbers(fields: &Fields) -> (Numbers, [u32; 6]) {
-    let numbers = Numbers {
-        version: fields.version,
-        message_type: fields.message_type,
-        suite: fields.suite,
-        content_type: fields.content_type,
-        iv_length: fields.iv_length,
-        frame_length: fields.frame_length,
-    };
-    let list = [
-        fields.version,
-        fields.message_type,
-        fields.suite,
-        fields.content_type,
-        fields.iv_length,
-        fields.frame_length,
-    ];
-    (numbers, list)
-}
-
 pub fn bodies(coverage: &mut Coverage) -> u64 {
     const SEEDS: u64 = 300_000;
     for seed in 0..SEEDS {
         let case = body_write_case(seed);
         let (fields, lent) = (&case.fields, &case.lent);
-        let (numbers, list) = numbers(fields);
+        let list = fields.numbers();
         let mut out = case.out.clone();
         let answer = write_header_body(
-            &numbers,
+            &Numbers::from(list),
             &fields.id,
             &fields.suite_data,
             &lent.text,

@@ -25,6 +25,36 @@ pub fn header_h() -> Vec<u8> {
     header_h_with("00 0C 00 01 00 04 6C 61 6E 67 00 02 63 79")
 }
 
+/// Message, start, number and position: the refusals of H, cut or with
+/// another start, that document 01 names, and those at the greatest start.
+pub fn header_h_refused() -> [(Vec<u8>, u64, (u32, u64)); 6] {
+    let h = header_h();
+    [
+        (h[..57].to_vec(), 0, (2, 58)),
+        (h[..22].to_vec(), 0, (2, 34)),
+        (h.clone(), 70, (2, 71)),
+        (Vec::new(), 0, (2, 1)),
+        (h.clone(), 4_294_967_295, (2, 4_294_967_296)),
+        (h, 4_294_967_296, (1, 0)),
+    ]
+}
+
+/// A message one byte longer than the greatest length; H ends at that length.
+/// The pages of a zeroed vector take no memory until they are written to.
+pub fn header_h_at_four_gibibytes() -> Vec<u8> {
+    let greatest = u32::MAX as usize;
+    let mut probe: Vec<u8> = Vec::new();
+    assert!(
+        probe.try_reserve_exact(greatest + 1).is_ok(),
+        "no room for the message"
+    );
+    drop(probe);
+    let mut message = vec![0u8; greatest + 1];
+    let h = header_h();
+    message[greatest - h.len()..greatest].copy_from_slice(&h);
+    message
+}
+
 /// A header of version 2 with a context section of choice and two equal keys.
 pub fn header_v2_with(section: &str) -> Vec<u8> {
     let mut bytes = hex("02 05 78");

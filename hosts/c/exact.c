@@ -1,0 +1,170 @@
+/*
+ * Every operation on buffers that are exactly as long as it is told, each an allocation of its own, so that a memory checker sees
+ * a read or a store beyond one. What is answered there is compared with the answer on buffers with room behind them. Writes
+ * `compared N cases`; a difference is written to standard error, and the exit status is 1.
+ *
+ *     rt staticlib header_c
+ *     gcc -std=c99 -O2 -Wall -Wextra -Iinclude hosts/c/exact.c target/staticlib/libheader_c.a -o target/exact_c
+ *     valgrind --error-exitcode=1 target/exact_c
+ */
+#include "compare.h"
+
+#include <stdlib.h>
+
+/* a header of version 2: two pairs, of which one key begins the other, and two equal keys with an empty part */
+static const uint8_t V2[108] = {
+    0x02, 0x05, 0x78,
+    0x20, 0x21, 0x22, 0x23, 0x24, 0x25, 0x26, 0x27, 0x28, 0x29, 0x2A, 0x2B, 0x2C, 0x2D, 0x2E, 0x2F,
+    0x30, 0x31, 0x32, 0x33, 0x34, 0x35, 0x36, 0x37, 0x38, 0x39, 0x3A, 0x3B, 0x3C, 0x3D, 0x3E, 0x3F,
+    0x00, 0x10, 0x00, 0x02, 0x00, 0x01, 0x61, 0x00, 0x01, 0x62, 0x00, 0x02, 0x61, 0x62, 0x00, 0x02, 0xC3, 0xA9,
+    0x00, 0x02, 0x00, 0x01, 0x70, 0x00, 0x00, 0x00, 0x01, 0xAA, 0x00, 0x01, 0x70, 0x00, 0x00, 0x00, 0x01, 0xAA,
+    0x01, 0x00, 0x00, 0x00, 0x00,
+    0x40, 0x41, 0x42, 0x43, 0x44, 0x45, 0x46, 0x47, 0x48, 0x49, 0x4A, 0x4B, 0x4C, 0x4D, 0x4E, 0x4F,
+    0x50, 0x51, 0x52, 0x53, 0x54, 0x55, 0x56, 0x57, 0x58, 0x59, 0x5A, 0x5B, 0x5C, 0x5D, 0x5E, 0x5F};
+
+/* an allocation of exactly these bytes; freed by let_go */
+static void *lent[8];
+static size_t lent_count;
+
+static void *lend(const void *bytes, size_t n)
+{
+    void *copy = malloc(n);
+    if (copy == NULL || lent_count == COUNT(lent)) {
+        abort();
+    }
+    memcpy(copy, bytes, n);
+    return lent[lent_count++] = copy;
+}
+
+static void let_go(void)
+{
+    while (lent_count > 0) {
+        free(lent[--lent_count]);
+    }
+}
+
+/* the same body by exact buffers: message of n bytes, tables of np and nk numbers */
+static void read_body(const uint8_t *m, size_t n, uint8_t which, uint8_t mode, size_t np, size_t nk)
+{
+    uint32_t *p, *k;
+    HeaderBody exact, roomy;
+    fresh();
+    p = lend(pairs, np * sizeof *p);
+    k = lend(keys, nk * sizeof *k);
+    exact = header_read_header_body(lend(m, n), n, 0, which, mode, HEADER_NO_MAX, 0, p, np, k, nk);
+    roomy = header_read_header_body(m, n, 0, which, mode, HEADER_NO_MAX, 0, pairs, np, keys, nk);
+    same_bytes("a body", &exact, &roomy, sizeof exact);
+    same_bytes("its pairs", p, pairs, np * sizeof *p);
+    same_bytes("its keys", k, keys, nk * sizeof *k);
+    let_go();
+}
+
+/* the two sections, the record of a suite, one value, and what a host is told, at a start */
+static void read_parts(const uint8_t *m, size_t n, uint64_t start, size_t np, size_t nk)
+{
+    const uint8_t *message = lend(m, n), *key = lend("ab", 2);
+    uint32_t *p, *k;
+    HeaderSection s, t;
+    HeaderPlace f, g;
+    HeaderAuth a, b;
+    fresh();
+    p = lend(pairs, np * sizeof *p);
+    k = lend(keys, nk * sizeof *k);
+    s = header_read_aad_section(message, n, start, HEADER_TOLERANT, p, np);
+    t = header_read_aad_section(m, n, start, HEADER_TOLERANT, pairs, np);
+    same_bytes("a context section", &s, &t, sizeof s);
+    same_bytes("its pairs", p, pairs, np * sizeof *p);
+    s = header_read_encrypted_data_keys_section(message, n, start, HEADER_NO_MAX, 0, k, nk);
+    t = header_read_encrypted_data_keys_section(m, n, start, HEADER_NO_MAX, 0, keys, nk);
+    same_bytes("a key section", &s, &t, sizeof s);
+    same_bytes("its keys", k, keys, nk * sizeof *k);
+    f = header_find_value(message, n, start, key, 2);
+    g = header_find_value(m, n, start, (const uint8_t *)"ab", 2);
+    same_bytes("a value", &f, &g, sizeof f);
+    a = header_read_header_auth_tag(message, n, start, 0x0178);
+    b = header_read_header_auth_tag(m, n, start, 0x0178);
+    same("a record", a.number, b.number);
+    same("a record", a.position, b.position);
+    same_bytes("its IV", a.iv, b.iv, sizeof a.iv);
+    same_bytes("its tag", a.tag, b.tag, sizeof a.tag);
+    same("number", header_number(message, n, start), header_number(m, n, start));
+    same("position", header_position(message, n, start), header_position(m, n, start));
+    let_go();
+}
+
+/* every cut of a header that has np pairs and nk keys, with tables that just hold them and tables that just don't */
+static void read_cuts(const uint8_t *m, size_t n, size_t np, size_t nk)
+{
+    uint64_t start;
+    size_t cut;
+    for (cut = 0; cut <= n; cut++) {
+        read_body(m, cut, HEADER_EITHER, HEADER_TOLERANT, 4 * np, 6 * nk);
+        read_body(m, cut, HEADER_V1_ONLY, HEADER_STRICT, 4 * np, 6 * nk - 1);
+        read_body(m, cut, HEADER_V2_ONLY, HEADER_STRICT, 4 * np - 1, 6 * nk);
+        read_body(m, cut, HEADER_EITHER, HEADER_STRICT, 0, 0);
+        for (start = 0; start <= cut + 1; start++) {
+            read_parts(m, cut, start, 4 * np, 6 * nk);
+        }
+    }
+}
+
+/* a header that was read, written again into exactly its length and into one byte less */
+static void write_again(const uint8_t *m, size_t n)
+{
+    HeaderBody b;
+    HeaderNumbers x;
+    HeaderWritten w;
+    const uint8_t *text, *id, *data;
+    const uint32_t *p, *k;
+    size_t room;
+    fresh();
+    b = header_read_header_body(m, n, 0, HEADER_EITHER, HEADER_STRICT, HEADER_NO_MAX, 0, pairs, NUMBERS, keys, NUMBERS);
+    same("a header", b.number, HEADER_ACCEPTED);
+    x = (HeaderNumbers){(uint8_t)b.version, (uint8_t)b.messageType, (uint16_t)b.suite, (uint8_t)b.contentType,
+                        (uint8_t)b.headerIvLength, (uint32_t)b.frameLength};
+    for (room = 0; room <= n; room++) {
+        uint8_t *o = lend(fresh_bytes, room);
+        text = lend(m, n);
+        id = lend(m + b.messageId, b.messageIdLen);
+        data = lend(m + b.suiteData, b.suiteDataLen);
+        p = lend(pairs, 16 * b.pairs);
+        k = lend(keys, 24 * b.keys);
+        w = header_write_header_body(x, id, b.messageIdLen, data, b.suiteDataLen, text, n, p, 4 * b.pairs, k, 6 * b.keys, o, room);
+        written_is("a header", w, room < n ? HEADER_OUTPUT_TOO_SHORT : 0, room < n ? 0 : n);
+        same_bytes("a header", o, room < n ? fresh_bytes : m, room);
+        let_go();
+    }
+}
+
+/* a context section, a key section and a record at every room up to their lengths */
+static void write_parts(void)
+{
+    static const uint8_t iv[12], tag[16];
+    size_t room;
+    uint8_t *o;
+    const uint8_t *text;
+    HeaderWritten w;
+    fresh();
+    for (room = 0; room <= 28; room++) {
+        o = lend(fresh_bytes, room);
+        text = lend(H, 58);
+        w = header_write_aad_section(text, 58, lend(H_pairs, sizeof H_pairs), 4, o, room);
+        written_is("a context section", w, room < 14 ? HEADER_OUTPUT_TOO_SHORT : 0, room < 14 ? 0 : 14);
+        w = header_write_encrypted_data_keys_section(text, 58, lend(H_keys, sizeof H_keys), 6, o, room);
+        written_is("a key section", w, room < 14 ? HEADER_OUTPUT_TOO_SHORT : 0, room < 14 ? 0 : 14);
+        w = header_write_header_auth_tag(0x0014, lend(iv, 12), 12, lend(tag, 16), 16, o, room);
+        written_is("a record", w, room < 28 ? HEADER_OUTPUT_TOO_SHORT : 0, room < 28 ? 0 : 28);
+        let_go();
+    }
+}
+
+int main(void)
+{
+    read_cuts(H, sizeof H, 1, 1);
+    read_cuts(V2, sizeof V2, 2, 2);
+    write_again(H, sizeof H);
+    write_again(V2, sizeof V2);
+    write_parts();
+    printf("compared %lu cases\n", cases);
+    return differences == 0 ? 0 : 1;
+}

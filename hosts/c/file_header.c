@@ -1,0 +1,78 @@
+/*
+ * Builds the fields of a header, writes it, reads it back, compares, and only then files it.
+ *
+ *     gcc -std=c99 -O2 -Wall -Wextra -Iinclude hosts/c/file_header.c target/staticlib/libheader_c.a -o target/file_header
+ *     target/file_header FILE
+ */
+#include "header.h"
+
+#include <stdio.h>
+#include <string.h>
+
+/* pairs and keys have their places in one text: key and value; provider ID, provider info and ciphertext */
+static const uint8_t text[] = {'l', 'a', 'n', 'g', 'c', 'y', 'p', '1', 'a', 0xAA, 0xBB, 0xCC};
+static const uint32_t pairs[4] = {0, 4, 4, 2};
+static const uint32_t keys[6] = {6, 2, 8, 1, 9, 3};
+static const uint8_t id[16] = {0, 1, 2, 3, 4, 5, 6, 7, 8, 9, 10, 11, 12, 13, 14, 15};
+static const HeaderNumbers numbers = {1, 0x80, 0x0178, 2, 12, 4096};
+
+/* n numbers of two tables, start and length by turns, lead to the same bytes */
+static int same_parts(const uint8_t *header, const uint32_t *read, const uint32_t *lent, size_t n)
+{
+    size_t i;
+    for (i = 0; i < n; i += 2) {
+        if (read[i + 1] != lent[i + 1] || memcmp(header + read[i], text + lent[i], lent[i + 1]) != 0) {
+            return 0;
+        }
+    }
+    return 1;
+}
+
+/* the header can be read, to its end, and what is read is what was to be written */
+static int reads_back(const uint8_t *header, size_t length)
+{
+    uint32_t p[4], k[6];
+    HeaderBody b = header_read_header_body(header, length, 0, HEADER_EITHER, HEADER_STRICT, HEADER_NO_MAX, 0, p, 4, k, 6);
+    return b.number == HEADER_ACCEPTED && b.tail == length && b.version == numbers.version
+           && b.messageType == numbers.messageType && b.suite == numbers.suite && b.contentType == numbers.contentType
+           && b.headerIvLength == numbers.headerIvLength && b.frameLength == numbers.frameLength && b.suiteDataLen == 0
+           && b.messageIdLen == sizeof id && memcmp(header + b.messageId, id, sizeof id) == 0 && b.pairs == 1 && b.keys == 1
+           && same_parts(header, p, pairs, 4) && same_parts(header, k, keys, 6);
+}
+
+static int file(const char *path, const uint8_t *header, size_t length)
+{
+    FILE *f = fopen(path, "wb");
+    int whole;
+    if (f == NULL) {
+        return 0;
+    }
+    whole = fwrite(header, 1, length, f) == length;
+    return fclose(f) == 0 && whole;
+}
+
+int main(int argc, char **argv)
+{
+    uint8_t out[1024];
+    HeaderWritten w;
+    if (argc != 2) {
+        fputs("file_header FILE\n", stderr);
+        return 2;
+    }
+    /* version 1 has no suite data: none are lent, by any pointer that is not null */
+    w = header_write_header_body(numbers, id, sizeof id, text, 0, text, sizeof text, pairs, 4, keys, 6, out, sizeof out);
+    if (w.number != HEADER_ACCEPTED) {
+        fprintf(stderr, "refusal %llu\n", (unsigned long long)w.number);
+        return 1;
+    }
+    if (!reads_back(out, (size_t)w.length)) {
+        fputs("what was read back is not what was written\n", stderr);
+        return 1;
+    }
+    if (!file(argv[1], out, (size_t)w.length)) {
+        perror(argv[1]);
+        return 1;
+    }
+    printf("filed %llu bytes\n", (unsigned long long)w.length);
+    return 0;
+}
