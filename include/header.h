@@ -1,6 +1,6 @@
 /*
- * Message headers of the caption encoder, for host programs in C and C++: reads and writes header bodies, their two sections
- * and authentication records. Link target/staticlib/libheader_c.a, which `rt staticlib header_c` writes.
+ * Message headers of the caption encoder, for host programs in C and C++: reads, writes and lists header bodies, and reads and
+ * writes their two sections and authentication records. Link target/staticlib/libheader_c.a, which `rt staticlib header_c` writes.
  *
  * How bytes are lent. A pointer and a length together are one lent part: `const uint8_t *message, size_t message_len`. The length
  * counts elements: bytes of a message, numbers of a table. No pointer is null, and each has its type's alignment; a part of length
@@ -185,6 +185,13 @@ HeaderWritten header_write_header_body(HeaderNumbers numbers, const uint8_t *mes
                                        const uint8_t *suite_data, size_t suite_data_len, const uint8_t *text, size_t text_len,
                                        const uint32_t *pairs, size_t pairs_len, const uint32_t *keys, size_t keys_len,
                                        uint8_t *out, size_t out_len);
+
+/*
+ * LISTING. Writes, as a writer does, the listing of the header at the first byte of the message, which is the text that the listing
+ * program prints of that message; a message that is refused has the one line that says so. Tables of 4,096 numbers lie on the
+ * stack. Unlike the program it takes the message whole, however long it is.
+ */
+HeaderWritten header_write_listing(const uint8_t *message, size_t message_len, uint8_t *out, size_t out_len);
 
 #ifdef __cplusplus
 }

@@ -262,6 +262,26 @@ static void auth(void)
     same("an unknown suite", header_read_header_auth_tag(out, 27, 0, 0x1400).number, HEADER_UNKNOWN_SUITE);
 }
 
+static void listings(void)
+{
+    static const char of_H[] = "header\t1\t80\t0178\t02\t4096\t58\nid\t000102030405060708090a0b0c0d0e0f\n"
+                               "pair\t6c616e67\t6379\nkey\t7031\t61\taabbcc\n";
+    static const char of_a_cut[] = "refused\t2\t58\n";
+    const size_t n = sizeof of_H - 1;
+    HeaderWritten w;
+    fresh();
+    w = header_write_listing(H, 58, out, n);
+    written_is("H's listing", w, 0, n);
+    output_is("H's listing", (const uint8_t *)of_H, n);
+    fresh();
+    w = header_write_listing(H, 58, out, n - 1);
+    written_is("no room for H's listing", w, HEADER_OUTPUT_TOO_SHORT, 0);
+    output_is("no room for H's listing", fresh_bytes, 0);
+    w = header_write_listing(H, 57, out, BYTES);
+    written_is("the listing of a cut", w, 0, sizeof of_a_cut - 1);
+    output_is("the listing of a cut", (const uint8_t *)of_a_cut, sizeof of_a_cut - 1);
+}
+
 int main(void)
 {
     read_bodies();
@@ -271,6 +291,7 @@ int main(void)
     write_sections();
     write_bodies();
     auth();
+    listings();
     printf("compared %lu cases\n", cases);
     return differences == 0 ? 0 : 1;
 }

@@ -136,7 +136,7 @@ static void write_again(const uint8_t *m, size_t n)
     }
 }
 
-/* a context section, a key section and a record at every room up to their lengths */
+/* a context section, a key section, a record and a listing at every room up to their lengths */
 static void write_parts(void)
 {
     static const uint8_t iv[12], tag[16];
@@ -154,6 +154,12 @@ static void write_parts(void)
         written_is("a key section", w, room < 14 ? HEADER_OUTPUT_TOO_SHORT : 0, room < 14 ? 0 : 14);
         w = header_write_header_auth_tag(0x0014, lend(iv, 12), 12, lend(tag, 16), 16, o, room);
         written_is("a record", w, room < 28 ? HEADER_OUTPUT_TOO_SHORT : 0, room < 28 ? 0 : 28);
+        let_go();
+    }
+    for (room = 0; room <= 102; room++) {
+        o = lend(fresh_bytes, room);
+        w = header_write_listing(lend(H, 58), 58, o, room);
+        written_is("a listing", w, room < 102 ? HEADER_OUTPUT_TOO_SHORT : 0, room < 102 ? 0 : 102);
         let_go();
     }
 }

@@ -73,6 +73,15 @@ pub fn write_header_auth_tag(
     )
 }
 
+pub fn write_listing(message: &[u8], out: &[u8]) -> (Answer<usize>, Vec<u8>) {
+    both(
+        out,
+        || format!("{message:02X?}"),
+        |out| header::write_listing(message, out),
+        |out| reference::write_listing(message, out),
+    )
+}
+
 pub fn write_header_body(lent: BodyLent, out: &[u8]) -> (Answer<usize>, Vec<u8>) {
     both(
         out,

@@ -7,6 +7,7 @@ use compare_header::scale::seeds;
 use compare_header::writes::{self, BodyLent};
 use compare_header::{compared, Coverage};
 use generator::auth_cases::auth_write_case;
+use generator::body_cases::body_case;
 use generator::body_write_cases::body_write_case;
 use generator::write_cases::{write_keys_case, write_section_case};
 use generator::Expected;
@@ -98,4 +99,26 @@ fn authentication_records() {
     coverage.print();
     coverage.assert_complete();
     compared(count, "writes of authentication records");
+}
+
+/// Into an output that the listing fills, and into one that it just doesn't.
+#[test]
+fn listings() {
+    let mut coverage = Coverage::default();
+    let mut count = 0;
+    let mut room = vec![0xA5; 300_000];
+    for seed in seeds(300_000) {
+        let case = body_case(seed);
+        let start = case.message.len().min(case.start as usize);
+        let message = &case.message[start..];
+        let length = header::write_listing(message, &mut room).expect("there is room");
+        for room in [length, length - 1, length + 1 + seed as usize % 50] {
+            let answer = writes::write_listing(message, &vec![seed as u8; room]);
+            coverage.count("write listing", number(&answer.0));
+            count += 1;
+        }
+    }
+    coverage.print();
+    coverage.assert_complete();
+    compared(count, "listings");
 }

@@ -142,6 +142,14 @@ extern "C" {
     /// The tail where the header is accepted, else the refusal's position.
     pub fn header_position(m: *const u8, m_len: usize, start: u64) -> u64;
 
+    /// The listing of the header at the front, or of its refusal.
+    pub fn header_write_listing(
+        m: *const u8,
+        m_len: usize,
+        out: *mut u8,
+        out_len: usize,
+    ) -> HeaderWritten;
+
     pub fn header_write_aad_section(
         text: *const u8,
         text_len: usize,

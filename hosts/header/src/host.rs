@@ -1,4 +1,8 @@
-//! The two calls for a host that wants no record.
+//! What the listing program says of a message: the two calls for a host that
+//! wants no record, and the listing itself.
+
+use crate::writes::length;
+use crate::Refusal;
 
 /// 0 where the listing program accepts the header at `start`, else the
 /// refusal's number.
@@ -14,4 +18,21 @@ pub fn header_number(message: &[u8], start: u64) -> u32 {
 pub fn header_position(message: &[u8], start: u64) -> u64 {
     // SAFETY: as for `header_number`.
     unsafe { header_sys::header_position(message.as_ptr(), message.len(), start) }
+}
+
+/// Writes the listing of the header at the front of the message, or of its
+/// refusal; answers the text's length. Only an output that is too short is
+/// refused.
+#[inline]
+pub fn write_listing(message: &[u8], out: &mut [u8]) -> Result<usize, Refusal> {
+    // SAFETY: pointers and lengths are the slices'; `out` is borrowed alone,
+    // so it doesn't overlap the message.
+    length(unsafe {
+        header_sys::header_write_listing(
+            message.as_ptr(),
+            message.len(),
+            out.as_mut_ptr(),
+            out.len(),
+        )
+    })
 }

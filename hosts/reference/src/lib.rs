@@ -34,7 +34,7 @@ pub use leaves::{
     compare_parts, equal_parts, read_bytes, read_entry, read_u16, read_u32, read_u8, write_bytes,
     write_entry, write_u16, write_u32, Place,
 };
-pub use listing::{host_answer, listing};
+pub use listing::{host_answer, listing, write_listing};
 pub use refusal::Refusal;
 pub use suites::{lookup, Suite, SUITES};
 pub use utf8::is_utf8;

@@ -2,8 +2,8 @@
 
 use crate::body::{read_header_body, Body, Which};
 use crate::context::Mode;
-use crate::leaves::part;
-use crate::refusal::Refusal;
+use crate::leaves::{part, put};
+use crate::refusal::{Refusal, OUTPUT};
 use crate::tables::{text_part, NUMBERS_A_KEY, NUMBERS_A_PAIR};
 
 /// The listing program reads this many bytes at most and ignores the rest.
@@ -12,9 +12,23 @@ pub const INPUT_MAX: usize = 65_536;
 /// The numbers in each of the listing's tables.
 pub const TABLE: usize = 4_096;
 
-/// The listing of a message given on standard input.
+/// What the program prints when a message is given on standard input.
 pub fn listing(message: &[u8]) -> Vec<u8> {
-    let message = &message[..message.len().min(INPUT_MAX)];
+    listing_of(&message[..message.len().min(INPUT_MAX)])
+}
+
+/// Writes the listing of a message, taken whole, from the output's first
+/// byte; answers its length. 28.
+pub fn write_listing(message: &[u8], out: &mut [u8]) -> Result<u64, Refusal> {
+    let text = listing_of(message);
+    if text.len() > out.len() {
+        return Err(Refusal::of(OUTPUT));
+    }
+    Ok(put(out, 0, &text) as u64)
+}
+
+/// The listing of a message, taken whole.
+fn listing_of(message: &[u8]) -> Vec<u8> {
     let mut pairs = [0u32; TABLE];
     let mut keys = [0u32; TABLE];
     let mut out = Vec::new();

@@ -4,7 +4,7 @@ use crate::say;
 use std::collections::BTreeMap;
 
 /// The refusals each operation lists.
-pub const LISTED: [(&str, &[u32]); 15] = [
+pub const LISTED: [(&str, &[u32]); 16] = [
     (
         "read section tolerant",
         &[1, 2, 8, 9, 10, 11, 12, 13, 14, 22],
@@ -61,6 +61,7 @@ pub const LISTED: [(&str, &[u32]); 15] = [
         ],
     ),
     ("write auth", &[6, 19, 28, 30]),
+    ("write listing", &[28]),
 ];
 
 /// Answers counted by operation; column 0 is acceptance.

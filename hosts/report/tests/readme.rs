@@ -7,7 +7,7 @@ use std::collections::BTreeSet;
 const README: &str = include_str!("../../../README.md");
 
 /// A column of the table, and the operations that it is of.
-const COLUMNS: [(&str, &[&str]); 9] = [
+const COLUMNS: [(&str, &[&str]); 10] = [
     ("context", &["read section tolerant", "read section strict"]),
     ("keys", &["read keys"]),
     (
@@ -27,6 +27,7 @@ const COLUMNS: [(&str, &[&str]); 9] = [
     ("write keys", &["write keys"]),
     ("write body", &["write body"]),
     ("write record", &["write auth"]),
+    ("listing", &["write listing"]),
 ];
 
 /// Whether a cell is of the operation.
