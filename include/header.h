@@ -189,7 +189,8 @@ HeaderWritten header_write_header_body(HeaderNumbers numbers, const uint8_t *mes
 /*
  * LISTING. Writes, as a writer does, the listing of the header at the first byte of the message, which is the text that the listing
  * program prints of that message; a message that is refused has the one line that says so. Tables of 4,096 numbers lie on the
- * stack. Unlike the program it takes the message whole, however long it is.
+ * stack. Unlike the program it takes the message whole, however long it is. An output of 2 * message_len + 28 bytes is never too
+ * short.
  */
 HeaderWritten header_write_listing(const uint8_t *message, size_t message_len, uint8_t *out, size_t out_len);
 

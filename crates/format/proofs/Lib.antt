@@ -10,6 +10,7 @@ pub mod Accepts
 pub mod Messages
 pub mod Writers
 pub mod Listed
+pub mod Wanted
 pub mod Held
 pub mod Either
 pub mod Strict

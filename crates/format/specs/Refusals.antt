@@ -3,9 +3,10 @@
 use mathlib.Core.Path.{_≡_}
 use mathlib.Core.Bool.{Bool, true, false}
 use mathlib.Core.List.{List, [], _∷_, _++_, List·Memᴰ}
-use Prim.Native.Nat.{ℕ, _<_}
+use Prim.Native.Nat.{ℕ, _+_, _-_, _<_}
 use lib.ListN.{length}
 use Rattle.format.specs.Read.{Reader, operation, refused}
+use Rattle.format.specs.Serialize.{Bytes}
 use Rattle.format.specs.Context.{Mode, tolerant, strict, read-aad-section-into, find-value}
 use Rattle.format.specs.Keys.{Max, read-encrypted-data-keys-section-into}
 use Rattle.format.specs.Body.{Which, either, v1-only, v2-only, Request, read-body}
@@ -58,3 +59,14 @@ pub record Refusals : Type 0 where
   pub of-keys : (max : Max) (room : ℕ) → RefusesBy keys-refusals (read-encrypted-data-keys-section-into max room)
   pub of-body : (q : Request) → RefusesBy (body-refusals q) (read-body q)
   pub of-auth : (suite : ℕ) → RefusesBy auth-refusals (read-header-auth-tag suite)
+
+-- what is wanted is never far: fewer than 65,536 bytes behind the message's end, or behind a start that lies beyond it
+abbrev pub WantsNear : {A : Type 0} → Reader A → Type 0
+WantsNear r = (m : List ℕ) (s p : ℕ) → Bytes m → operation r m s ≡ refused 2 p → p < s + (length m - s) + 65536
+
+pub record Nearness : Type 0 where
+  pub of-context : (mode : Mode) (room : ℕ) → WantsNear (read-aad-section-into mode room)
+  pub of-find : (k : List ℕ) → WantsNear (find-value k)
+  pub of-keys : (max : Max) (room : ℕ) → WantsNear (read-encrypted-data-keys-section-into max room)
+  pub of-body : (q : Request) → WantsNear (read-body q)
+  pub of-auth : (suite : ℕ) → WantsNear (read-header-auth-tag suite)

@@ -3,11 +3,18 @@ use libc::STDIN_FILENO;
 use libc::STDOUT_FILENO;
 use listing_text::ListingAnswer;
 use listing_text::write_listing;
+ghost use mathlib.Core.Path.{_≡_};
+ghost use Prim.Native.Nat.{_≤_};
+ghost use lib.ListN.{length};
+ghost use Rattle.format.specs.Lent.{filled};
 ghost use Rattle.io.specs.Counts.{Counts};
+ghost use Rattle.listing_text.specs.Listing.{listing};
 
-// The length of the listing that is put into `out`; 0 where it has no room.
+// The length of the listing, with which `out` then begins. So long an output has room for it whatever the message is: `TooLong` does
+// not come.
 fn list(m: &[u8], out: &mut [u8]) -> usize
-    ensures { λ r. ⌜ Counts r (now (out .exit)) ⌝ }
+    requires { ⌜ (length (now m) ≤ 65536) × (length (now out) ≡ 262144) ⌝ }
+    ensures { λ r. ⌜ (r ≡ length (listing (now (m .entry)))) × (now (out .exit) ≡ filled (listing (now (m .entry))) (now (out .entry))) × Counts r (now (out .exit)) ⌝ }
 {
     let answer = write_listing(m, out);
     match answer {

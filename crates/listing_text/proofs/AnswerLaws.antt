@@ -79,3 +79,13 @@ within-output text d o r n l e = go (leb (length text) (length d)) refl
 
 pub written-counts : (text d o : List ℕ) (r : ListingAnswer) (n : ℕ) → Lists text d o r → r ≡ Written n → n ≡ length (take n o)
 written-counts text d o r n l e = sym (length-take-le n o (within-output text d o r n l e))
+
+-- a text that fits is written whole
+module _ (text d o : List ℕ) (r : ListingAnswer) (l : Lists text d o r) (h : length text ≤ length d) where
+  pub fitting-answer : r ≡ Written (length text)
+  unfolding refusal-of first
+  fitting-answer = rw (le-leb (length text) (length d) h) at (l .answer)
+
+  pub fitting-output : o ≡ filled text d
+  unfolding refusal-of first
+  fitting-output = rw (le-leb (length text) (length d) h) at (l .output)

@@ -52,6 +52,16 @@ pub decimal-long : (n : ℕ) → 10 ≤ n → decimal n ≡ decimal (n / 10) ++ 
 unfolding decimal
 decimal-long n h = in-long n n h ∙ ap (λ (l : List ℕ). l ++ ((48 + n % 10) ∷ [])) (any-bound n (suc (n / 10)) (n / 10) (omega arith) (omega arith))
 
+-- below a power of ten there are no more digits than its exponent
+pub decimal-few : (k n : ℕ) → n < 10 ^ suc k → length (decimal n) ≤ suc k
+decimal-few zero n h = rw (decimal-short n (omega arith)) (omega arith)
+decimal-few (suc k) n h =
+    cases n (λ few. rw (decimal-short n few) (omega arith))
+    (λ many.
+    let w : n < 10 ^ suc k * 10 = rw (pow-suc 10 (suc k)) at h in
+    let e = decimal-few k (n / 10) (omega arith) in
+    rw (decimal-long n many, length-append) (omega arith))
+
 -- one digit more
 value-more : (ds : List ℕ) (a d : ℕ) → value-from a (ds ++ (d ∷ [])) ≡ value-from a ds * 10 + (d - 48)
 unfolding value-from

@@ -130,7 +130,7 @@ module _ (m : List ℕ) (a : HeaderBodyAnswer) (pairs keys : List ℕ) (w : Read
   refusal-listed q f d o r l = rw (was-refused said a (w .reads .answer) q f) l
 
 -- the elements of a message are bytes
-bytes-of : (m : List ℕ) → ((i : ℕ) → Fits w8 (getD m i 0)) → Bytes m
+pub bytes-of : (m : List ℕ) → ((i : ℕ) → Fits w8 (getD m i 0)) → Bytes m
 bytes-of [] h = tt
 bytes-of (x ∷ l) h = (h 0 .fits, bytes-of l (λ i. h (suc i)))
 

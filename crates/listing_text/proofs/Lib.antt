@@ -8,3 +8,4 @@ pub mod AnswerLaws
 pub mod TextSizes
 pub mod Tables
 pub mod Joint
+pub mod Bound

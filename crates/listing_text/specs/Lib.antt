@@ -3,3 +3,4 @@ pub mod Examples
 pub mod Numerals
 pub mod Put
 pub mod Answers
+pub mod Bound

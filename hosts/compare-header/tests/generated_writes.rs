@@ -106,11 +106,11 @@ fn authentication_records() {
 fn listings() {
     let mut coverage = Coverage::default();
     let mut count = 0;
-    let mut room = vec![0xA5; 300_000];
     for seed in seeds(300_000) {
         let case = body_case(seed);
         let start = case.message.len().min(case.start as usize);
         let message = &case.message[start..];
+        let mut room = vec![0; 2 * message.len() + 28];
         let length = header::write_listing(message, &mut room).expect("there is room");
         for room in [length, length - 1, length + 1 + seed as usize % 50] {
             let answer = writes::write_listing(message, &vec![seed as u8; room]);

@@ -22,7 +22,7 @@ pub fn header_position(message: &[u8], start: u64) -> u64 {
 
 /// Writes the listing of the header at the front of the message, or of its
 /// refusal; answers the text's length. Only an output that is too short is
-/// refused.
+/// refused; one of 28 bytes more than two for each of the message never is.
 #[inline]
 pub fn write_listing(message: &[u8], out: &mut [u8]) -> Result<usize, Refusal> {
     // SAFETY: pointers and lengths are the slices'; `out` is borrowed alone,
