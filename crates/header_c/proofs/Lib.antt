@@ -1,3 +1,2 @@
 pub mod BodyCrossing
 pub mod Crossing
-pub mod Listed

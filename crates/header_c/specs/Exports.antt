@@ -25,8 +25,6 @@ use Rattle.body_reader.specs.Codes.{body-code}
 use Rattle.body_reader.specs.declared.HeaderBody.{HeaderBody as BodyNumbers}
 use Rattle.body_reader.specs.declared.HeaderBodyAnswer.{HeaderBodyAnswer}
 use Rattle.body_reader.specs.declared.HeaderBodyAnswer.the-variants as body
-use Rattle.listing_text.specs.declared.ListingAnswer.{ListingAnswer}
-use Rattle.listing_text.specs.declared.ListingAnswer.the-variants as listing
 use Rattle.checks.specs.declared.WriteAnswer.{WriteAnswer}
 use Rattle.checks.specs.declared.WriteAnswer.the-variants as write
 use Rattle.header_c.specs.declared.HeaderSection.{HeaderSection}
@@ -141,10 +139,6 @@ written-record (refused k p) = record { number = k; length = 0 }
 abbrev pub write-fields : WriteAnswer → HeaderWritten
 write-fields (write.Written n) = record { number = 0; length = n }
 write-fields (write.Refused q) = record { number = q .number; length = 0 }
-
-abbrev pub listing-fields : ListingAnswer → HeaderWritten
-listing-fields (listing.Written n) = record { number = 0; length = n }
-listing-fields (listing.TooLong) = record { number = 28; length = 0 }
 
 -- the contract of every writer: what it answers, and what the output holds afterwards
 pub record Writes (w : Writing) (before after : List ℕ) (r : HeaderWritten) : Type 0 where

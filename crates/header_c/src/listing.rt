@@ -1,8 +1,8 @@
 // The number and the position, by a call each, read as the listing program does: either version, tolerant, no maximum, tables of
 // 4,096 numbers; and the listing itself.
 use crate::HeaderWritten;
+use crate::writers::written_record;
 use body_reader::HeaderBodyAnswer;
-use listing_text::ListingAnswer;
 use request::Max;
 use request::Mode;
 use request::Request;
@@ -11,7 +11,7 @@ ghost use mathlib.Core.Path.{_≡_};
 ghost use Rattle.body_reader.specs.Codes.{body-of};
 ghost use Rattle.listing_text.specs.Listing.{listing};
 ghost use Rattle.listing_text.specs.Answers.{writing-text};
-ghost use Rattle.header_c.specs.Exports.{as-listed, answer-number, answer-position, Writes, listing-fields};
+ghost use Rattle.header_c.specs.Exports.{as-listed, answer-number, answer-position, Writes};
 
 fn read_as_listed(m: &[u8], start: u64) -> HeaderBodyAnswer
     ensures { λ r. ⌜ r ≡ body-of (as-listed (now (m .entry)) start) ⌝ }
@@ -50,25 +50,10 @@ pub extern "C" fn header_position(m: &[u8], start: u64) -> u64
     }
 }
 
-fn listing_record(a: ListingAnswer) -> HeaderWritten
-    ensures { λ r. ⌜ r ≡ listing-fields a ⌝ }
-{
-    match a {
-        ListingAnswer::Written(n) => HeaderWritten {
-            number: 0,
-            length: n as u64,
-        },
-        ListingAnswer::TooLong => HeaderWritten {
-            number: 28,
-            length: 0,
-        },
-    }
-}
-
 // The listing of the header at the front of the message, or of its refusal. The message is taken whole.
 #[no_mangle]
 pub extern "C" fn header_write_listing(m: &[u8], out: &mut [u8]) -> HeaderWritten
     ensures { λ r. ⌜ Writes (writing-text (listing (now (m .entry)))) (now (out .entry)) (now (out .exit)) r ⌝ }
 {
-    listing_record(listing_text::write_listing(m, out))
+    written_record(listing_text::write_listing(m, out))
 }

@@ -7,7 +7,7 @@ ghost use mathlib.Core.Path.{_≡_};
 ghost use Rattle.format.specs.Lent.{writing-aad-section, writing-encrypted-data-keys-section, writing-header-auth-tag, writing-header-body};
 ghost use Rattle.header_c.specs.Exports.{Writes, write-fields, numbers-of, body-lent};
 
-fn written_record(a: WriteAnswer) -> HeaderWritten
+pub fn written_record(a: WriteAnswer) -> HeaderWritten
     ensures { λ r. ⌜ r ≡ write-fields a ⌝ }
 {
     match a {

@@ -12,10 +12,11 @@ use Rattle.listing_text.specs.Answers.{Lists}
 use Rattle.listing_text.proofs.AnswerLaws.{fitting-answer, fitting-output}
 use Rattle.listing_text.proofs.Joint.{bytes-of}
 use Rattle.listing_text.proofs.Bound.{listing-fits}
-use Rattle.listing_text.specs.declared.ListingAnswer.{ListingAnswer}
-use Rattle.listing_text.specs.declared.ListingAnswer.the-variants.{Written, TooLong}
+use Rattle.wire.specs.declared.Refusal.{Refusal}
+use Rattle.checks.specs.declared.WriteAnswer.{WriteAnswer}
+use Rattle.checks.specs.declared.WriteAnswer.the-variants.{Written, Refused}
 
-module _ (m d o : List ℕ) (a : ListingAnswer) (bytes : (i : ℕ) → Fits w8 (getD m i 0)) (read : length m ≤ 65536) (room : length d ≡ 262144) (l : Lists (listing m) d o a) where
+module _ (m d o : List ℕ) (a : WriteAnswer) (bytes : (i : ℕ) → Fits w8 (getD m i 0)) (read : length m ≤ 65536) (room : length d ≡ 262144) (l : Lists (listing m) d o a) where
   fits : length (listing m) ≤ length d
   fits = let h = listing-fits .in-the-program m (bytes-of m bytes) read in omega arith
 
@@ -25,8 +26,8 @@ module _ (m d o : List ℕ) (a : ListingAnswer) (bytes : (i : ℕ) → Fits w8 (
   pub its-length : (n : ℕ) → a ≡ Written n → n ≡ length (listing m)
   its-length n e = let w : a ≡ Written (length (listing m)) = fitting-answer (listing m) d o a l fits in cc
 
-  pub never-too-long : a ≡ TooLong → ⊥
-  never-too-long e =
+  pub never-refused : (q : Refusal) → a ≡ Refused q → ⊥
+  never-refused q e =
       let w : a ≡ Written (length (listing m)) = fitting-answer (listing m) d o a l fits in
       let z : _≡_ {A = ℕ} 0 1 = cc in
       omega arith

@@ -1,7 +1,7 @@
 // Lists the header at the front of standard input: at most 65,536 bytes of it, and the rest is ignored.
+use checks::WriteAnswer;
 use libc::STDIN_FILENO;
 use libc::STDOUT_FILENO;
-use listing_text::ListingAnswer;
 use listing_text::write_listing;
 ghost use mathlib.Core.Path.{_≡_};
 ghost use Prim.Native.Nat.{_≤_};
@@ -10,16 +10,16 @@ ghost use Rattle.format.specs.Lent.{filled};
 ghost use Rattle.io.specs.Counts.{Counts};
 ghost use Rattle.listing_text.specs.Listing.{listing};
 
-// The length of the listing, with which `out` then begins. So long an output has room for it whatever the message is: `TooLong` does
-// not come.
+// The length of the listing, with which `out` then begins. So long an output has room for it whatever the message is, so that
+// nothing is refused.
 fn list(m: &[u8], out: &mut [u8]) -> usize
     requires { ⌜ (length (now m) ≤ 65536) × (length (now out) ≡ 262144) ⌝ }
     ensures { λ r. ⌜ (r ≡ length (listing (now (m .entry)))) × (now (out .exit) ≡ filled (listing (now (m .entry))) (now (out .entry))) × Counts r (now (out .exit)) ⌝ }
 {
     let answer = write_listing(m, out);
     match answer {
-        ListingAnswer::Written(len) => len,
-        ListingAnswer::TooLong => 0,
+        WriteAnswer::Written(len) => len,
+        WriteAnswer::Refused(_) => 0,
     }
 }
 

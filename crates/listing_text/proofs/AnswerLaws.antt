@@ -11,22 +11,23 @@ use lib.Seq.{length-take-le}
 use borrow.Author.Tests.{le-leb, lt-leb, eq-eqb, ne-eqb}
 use Rattle.format.specs.Checks.{first}
 use Rattle.format.specs.Lent.{refusal-of, filled}
+use Rattle.wire.specs.Codes.{because}
 use Rattle.wire.specs.Stored.{stored}
+use Rattle.checks.specs.declared.WriteAnswer.{WriteAnswer}
+use Rattle.checks.specs.declared.WriteAnswer.the-variants.{Written, Refused}
 use Rattle.listing_text.specs.Put.{Room, Put}
 use Rattle.listing_text.specs.Listing.{word-data}
 use Rattle.listing_text.specs.Answers.{Lists, part-text, data-text, body-text, body-size, BodyThere}
 use Rattle.body_reader.specs.declared.HeaderBody.{HeaderBody}
 use Rattle.listing_text.proofs.Puts.{put-nothing}
 use Rattle.listing_text.proofs.TextSizes.{text-long}
-use Rattle.listing_text.specs.declared.ListingAnswer.{ListingAnswer}
-use Rattle.listing_text.specs.declared.ListingAnswer.the-variants.{Written, TooLong}
 
 module _ (text d : List ℕ) where
-  pub too-long : (size : ℕ) → size ≡ length text → length d < size → Lists text d d TooLong
+  pub too-long : (size : ℕ) → size ≡ length text → length d < size → (r : WriteAnswer) → r ≡ Refused (because 28 0) → Lists text d d r
   unfolding refusal-of first
-  too-long size e h =
+  too-long size e h r f =
       let no = lt-leb (length text) (length d) (omega arith) in
-      record { answer = rw no refl; output = rw no refl }
+      record { answer = rw no f; output = rw no refl }
 
   pub has-room : (size : ℕ) → size ≡ length text → size ≤ length d → Room d 0 text
   has-room size e h = record { fits = omega arith }
@@ -55,14 +56,14 @@ module _ (m : List ℕ) (version start n : ℕ) (d : List ℕ) (s : ℕ) where
 
 -- the same of a header, by its size in numbers
 module _ (m : List ℕ) (b : HeaderBody) (tail : ℕ) (pairs keys : List ℕ) (w : BodyThere m b pairs keys) (d : List ℕ) (size : ℕ) (e : size ≡ body-size b tail pairs keys) where
-  pub body-too-long : length d < size → Lists (body-text m b tail pairs keys) d d TooLong
-  body-too-long h = too-long (body-text m b tail pairs keys) d size (text-long m b tail pairs keys w size e) h
+  pub body-too-long : length d < size → (r : WriteAnswer) → r ≡ Refused (because 28 0) → Lists (body-text m b tail pairs keys) d d r
+  body-too-long h r f = too-long (body-text m b tail pairs keys) d size (text-long m b tail pairs keys w size e) h r f
 
   pub body-has-room : size ≤ length d → Room d 0 (body-text m b tail pairs keys)
   body-has-room h = has-room (body-text m b tail pairs keys) d size (text-long m b tail pairs keys w size e) h
 
 -- what was written lies within the output
-pub within-output : (text d o : List ℕ) (r : ListingAnswer) (n : ℕ) → Lists text d o r → r ≡ Written n → n ≤ length o
+pub within-output : (text d o : List ℕ) (r : WriteAnswer) (n : ℕ) → Lists text d o r → r ≡ Written n → n ≤ length o
 unfolding refusal-of first
 within-output text d o r n l e = go (leb (length text) (length d)) refl
   where
@@ -73,15 +74,15 @@ within-output text d o r n l e = go (leb (length text) (length d)) refl
         let c : n ≡ length text = cc in
         rw (b, length-append) (omega arith)
     go false q =
-        let a : r ≡ TooLong = rw q at (l .answer) in
+        let a : r ≡ Refused (because 28 0) = rw q at (l .answer) in
         let z : _≡_ {A = ℕ} 0 1 = cc in
         absurd (omega arith)
 
-pub written-counts : (text d o : List ℕ) (r : ListingAnswer) (n : ℕ) → Lists text d o r → r ≡ Written n → n ≡ length (take n o)
+pub written-counts : (text d o : List ℕ) (r : WriteAnswer) (n : ℕ) → Lists text d o r → r ≡ Written n → n ≡ length (take n o)
 written-counts text d o r n l e = sym (length-take-le n o (within-output text d o r n l e))
 
 -- a text that fits is written whole
-module _ (text d o : List ℕ) (r : ListingAnswer) (l : Lists text d o r) (h : length text ≤ length d) where
+module _ (text d o : List ℕ) (r : WriteAnswer) (l : Lists text d o r) (h : length text ≤ length d) where
   pub fitting-answer : r ≡ Written (length text)
   unfolding refusal-of first
   fitting-answer = rw (le-leb (length text) (length d) h) at (l .answer)

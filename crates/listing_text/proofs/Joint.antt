@@ -25,7 +25,7 @@ use Rattle.body_reader.specs.declared.HeaderBodyAnswer.{HeaderBodyAnswer}
 use Rattle.body_reader.specs.declared.HeaderBodyAnswer.the-variants.{Accepted, Refused}
 use Rattle.listing_text.specs.Listing.{lines, word-id, word-pair, word-key, header-line, part-line, data-line, body-listing, refusal-listing, listing}
 use Rattle.listing_text.specs.Answers.{Lists, items-text, front-text, tables-text, data-text, body-text, TableThere, BodyThere, Reading}
-use Rattle.listing_text.specs.declared.ListingAnswer.{ListingAnswer}
+use Rattle.checks.specs.declared.WriteAnswer.{WriteAnswer}
 use Rattle.listing_text.proofs.Tables.{there-is, places-long, Lined, items-stand}
 
 regroup : (a b c d e : List ℕ) → (a ++ b) ++ ((c ++ d) ++ e) ≡ a ++ (b ++ (c ++ (d ++ e)))
@@ -122,10 +122,10 @@ module _ (m : List ℕ) (a : HeaderBodyAnswer) (pairs keys : List ℕ) (w : Read
     pub answer-there : BodyThere m x pairs keys
     answer-there = let y = was said a (w .reads .answer) x t f in rw (y .code) (body-there (y .body) t (y .is))
 
-    pub answer-listed : (d o : List ℕ) (r : ListingAnswer) → Lists (body-text m x t pairs keys) d o r → Lists (listing m) d o r
+    pub answer-listed : (d o : List ℕ) (r : WriteAnswer) → Lists (body-text m x t pairs keys) d o r → Lists (listing m) d o r
     answer-listed d o r l = let y = was said a (w .reads .answer) x t f in rw (← body-is (y .body) t (y .is), ← y .code) l
 
-  pub refusal-listed : (q : Refusal) → a ≡ Refused q → (d o : List ℕ) (r : ListingAnswer) → Lists (refusal-listing (q .number) (q .position)) d o r → Lists (listing m) d o r
+  pub refusal-listed : (q : Refusal) → a ≡ Refused q → (d o : List ℕ) (r : WriteAnswer) → Lists (refusal-listing (q .number) (q .position)) d o r → Lists (listing m) d o r
   unfolding listing
   refusal-listed q f d o r l = rw (was-refused said a (w .reads .answer) q f) l
 

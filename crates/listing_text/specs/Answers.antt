@@ -6,32 +6,26 @@ use mathlib.Core.List.{List, [], _++_}
 use Prim.Native.Nat.{ℕ, _+_, _*_, _≤_, _<_}
 use lib.Dec.{eqb}
 use lib.ListN.{length}
-use Rattle.format.specs.Read.{Answer, accepted, refused, operation}
+use Rattle.format.specs.Read.{operation}
 use Rattle.format.specs.Serialize.{Bytes}
 use Rattle.format.specs.Context.{tolerant}
 use Rattle.format.specs.Keys.{no-max}
 use Rattle.format.specs.Body.{either, read-header-body}
-use Rattle.format.specs.Lent.{bytes-at, Writing, written, output-after}
+use Rattle.format.specs.Lent.{bytes-at, Writing}
+use Rattle.checks.specs.Answers.{Writes}
+use Rattle.checks.specs.declared.WriteAnswer.{WriteAnswer}
 use Rattle.body_reader.specs.Codes.{ReadsBody}
 use Rattle.body_reader.specs.declared.HeaderBody.{HeaderBody}
 use Rattle.body_reader.specs.declared.HeaderBodyAnswer.{HeaderBodyAnswer}
 use Rattle.listing_text.specs.Listing.{hex, field, line, header-fields, word-header, word-id, word-pair, word-key, word-data}
 use Rattle.listing_text.specs.Put.{There, All, ItemThere, texts, item-line, parts-size}
-use Rattle.listing_text.specs.declared.ListingAnswer.{ListingAnswer}
-use Rattle.listing_text.specs.declared.ListingAnswer.the-variants.{Written, TooLong}
 
 -- a text to write: no refusal but 28, that it is longer than the output
 abbrev pub writing-text : List ℕ → Writing
 writing-text text = record { checks = []; image = text }
 
--- TooLong is refusal 28, the only one
-abbrev pub listing-answer-of : Answer (Unit {0}) → ListingAnswer
-listing-answer-of (accepted u n) = Written n
-listing-answer-of (refused k p) = TooLong
-
-pub record Lists (text before after : List ℕ) (r : ListingAnswer) : Type 0 where
-  pub answer : r ≡ listing-answer-of (written (writing-text text) before)
-  pub output : after ≡ output-after (writing-text text) before
+abbrev pub Lists : List ℕ → List ℕ → List ℕ → WriteAnswer → Type 0
+Lists text = Writes (writing-text text)
 
 -- a part of the message on a line of its own
 abbrev pub part-text : List ℕ → List ℕ → ℕ → ℕ → List ℕ

@@ -7,6 +7,8 @@ pub mod sizes;
 use body_reader::HeaderBody;
 use body_reader::HeaderBodyAnswer;
 use body_reader::read_header_body;
+use checks::WriteAnswer;
+use checks::refuses;
 use fields::put_items;
 use lines::put_header;
 use lines::put_part_line;
@@ -17,25 +19,20 @@ use request::Request;
 use request::Which;
 use sizes::body_size;
 use sizes::refusal_size;
+use wire::refusals::OUTPUT_TOO_SHORT;
 ghost use Rattle.listing_text.specs.Listing.{refusal-listing, listing};
 ghost use Rattle.listing_text.specs.Put.{Room, Put, There};
 ghost use Rattle.listing_text.specs.Answers.{Lists, front-text, tables-text, data-text, body-text, TableThere, BodyThere, Reading};
 
-// The text's length; or refusal 28, the text being longer than the output, which is then as it was.
-pub enum ListingAnswer {
-    Written(usize),
-    TooLong,
-}
-
-fn write_refusal(number: u64, position: u64, out: &mut [u8]) -> ListingAnswer
+fn write_refusal(number: u64, position: u64, out: &mut [u8]) -> WriteAnswer
     ensures { λ r. ⌜ Lists (refusal-listing number position) (now (out .entry)) (now (out .exit)) r ⌝ }
 {
     let size = refusal_size(number, position);
     if out.len() < size {
-        return ListingAnswer::TooLong;
+        return refuses(OUTPUT_TOO_SHORT);
     }
     let end = put_refusal(number, position, out, 0);
-    ListingAnswer::Written(end)
+    WriteAnswer::Written(end)
 }
 
 // The header's line and the ID's.
@@ -129,16 +126,16 @@ fn write_body(
     pairs: &[u32],
     keys: &[u32],
     out: &mut [u8],
-) -> ListingAnswer
+) -> WriteAnswer
     requires { ⌜ BodyThere (now m) body (now pairs) (now keys) ⌝ }
     ensures { λ r. ⌜ Lists (body-text (now (m .entry)) body tail (now (pairs .entry)) (now (keys .entry))) (now (out .entry)) (now (out .exit)) r ⌝ }
 {
     let size = body_size(body, tail, pairs, keys);
     if out.len() < size {
-        return ListingAnswer::TooLong;
+        return refuses(OUTPUT_TOO_SHORT);
     }
     let end = put_body(m, body, tail, pairs, keys, out);
-    ListingAnswer::Written(end)
+    WriteAnswer::Written(end)
 }
 
 fn write_answer(
@@ -147,7 +144,7 @@ fn write_answer(
     pairs: &[u32],
     keys: &[u32],
     out: &mut [u8],
-) -> ListingAnswer
+) -> WriteAnswer
     requires { ⌜ Reading (now m) answer (now pairs) (now keys) ⌝ }
     ensures { λ r. ⌜ Lists (listing (now (m .entry))) (now (out .entry)) (now (out .exit)) r ⌝ }
 {
@@ -157,8 +154,9 @@ fn write_answer(
     }
 }
 
-// Reads as the listing program does: start 0, either version, tolerant, no maximum, tables of 4,096 numbers.
-pub fn write_listing(m: &[u8], out: &mut [u8]) -> ListingAnswer
+// Reads as the listing program does: start 0, either version, tolerant, no maximum, tables of 4,096 numbers. 28, and no other
+// refusal: the text is longer than the output.
+pub fn write_listing(m: &[u8], out: &mut [u8]) -> WriteAnswer
     ensures { λ r. ⌜ Lists (listing (now (m .entry))) (now (out .entry)) (now (out .exit)) r ⌝ }
 {
     let request = Request {
