@@ -8,10 +8,11 @@ use native.Mathlib.Nat.{add-zero, sub-zero, add-sub-cancel-left}
 use borrow.Author.Count.{below-more}
 use borrow.Author.Tests.{le-leb, lt-leb, leb-false, eq-eqb, ne-eqb}
 use lib.ListN.{length, getD, take, drop, length-drop}
-use lib.Dec.{T, leb, leb→le}
+use lib.Dec.{T, leb}
 use Rattle.format.specs.Utf8.{Range, _‥_, has, tail, rows, never, due, first-byte, octets, valid-utf8-seq}
+use Rattle.format.proofs.Grammar.{never-any}
 use Rattle.wire.specs.Scan.{Low, tails, Tails, Scan, Two, Passed, Advanced}
-use Rattle.wire.proofs.Octets.{due-00, due-C2, due-E0, due-E1, due-ED, due-EE, due-F0, due-F1, due-F4, never-80, never-F5, opens, follows, never-any, too-few, valid-end}
+use Rattle.wire.proofs.Octets.{unbroken, alike, opens, follows, too-few, valid-end}
 
 -- bytes below 128
 pub passed-none : (m : List ℕ) (i : ℕ) → i ≤ length m → Passed m i i
@@ -21,7 +22,8 @@ pub passed-on : (m : List ℕ) (i j k : ℕ) → Passed m i j → Passed m j k �
 passed-on m i j k x y = record { after = omega arith; fits = y .fits; goes = x .goes ∙ y .goes }
 
 pub passed-byte : (m : List ℕ) (i : ℕ) → i < length m → getD m i 0 < 128 → Passed m i (i + 1)
-passed-byte m i h k = record { after = omega arith; fits = omega arith; goes = opens m i (due []) h (due-00 (getD m i 0) (omega arith) k) }
+unfolding rows first-byte unbroken
+passed-byte m i h k = record { after = omega arith; fits = omega arith; goes = opens m i (due []) h (alike 0x00 0x80 (getD m i 0) (omega arith) k rows tt) }
 
 pub passed-block : (m : List ℕ) (i n : ℕ) → i + n ≤ length m → ((k : ℕ) → k < n → getD m (i + k) 0 < 128) → Passed m i (i + n)
 passed-block m i zero h all = rw (add-zero i) (passed-none m i (omega arith))
@@ -138,59 +140,26 @@ module _ (m : List ℕ) (i : ℕ) (r : Range) (n : ℕ) where
         let g : i + 2 + n ≡ i + (n + 2) = omega arith in
         record { fits = omega arith; goes = second e u x ∙ rw (f, g, ne-eqb (n + 2) 0 (λ q. omega arith)) refl }
 
--- a character from its first byte on, by the row of that byte
-module _ (m : List ℕ) (i : ℕ) (h : i < length m) where
-  begins : (ds : List Range) (r : ℕ) → first-byte rows (getD m i 0) ≡ due ds → Scan m (i + 1) ds i r → Scan m i [] i r
-  begins ds r e s = record { fits = s .fits; goes = opens m i (due ds) h e ∙ s .goes }
+-- a character from its first byte on, by what the table says of `low`, with which a row begins or a gap between rows: c is left to
+-- `search`, which takes it from the code's tests
+module _ (low : ℕ) where
+  module _ (c : ℕ) (m : List ℕ) (i : ℕ) (h : i < length m) (p : low ≤ getD m i 0) (q : getD m i 0 < c) (t : T (unbroken rows low c)) where
+    pub lead : (ds : List Range) (r : ℕ) → Scan m (i + 1) ds i r → first-byte rows low ≡ due ds → Scan m i [] i r
+    lead ds r s e = record { fits = s .fits; goes = opens m i (due ds) h (alike low c (getD m i 0) p q rows t ∙ e) ∙ s .goes }
 
-  none : first-byte rows (getD m i 0) ≡ never → Scan m i [] i 0
-  none e = record { fits = omega arith; goes = opens m i never h e ∙ never-any (drop (i + 1) m) }
+    pub lead-none : first-byte rows low ≡ never → Scan m i [] i 0
+    lead-none e = record { fits = omega arith; goes = opens m i never h (alike low c (getD m i 0) p q rows t ∙ e) ∙ never-any (drop (i + 1) m) }
 
-  -- the bytes from 80 up to a bound that is at most C2
-  pub lead-80 : (c : ℕ) → 0x80 ≤ getD m i 0 → getD m i 0 < c → T (leb c 0xC2) → Scan m i [] i 0
-  lead-80 c p q t = let k : c ≤ 0xC2 = leb→le c 0xC2 t in none (never-80 (getD m i 0) p (omega arith))
-
-  pub lead-F5 : 0xF5 ≤ getD m i 0 → Scan m i [] i 0
-  lead-F5 p = none (never-F5 (getD m i 0) p)
-
-  module _ (r : ℕ) where
-    pub lead-C2 : 0xC2 ≤ getD m i 0 → getD m i 0 < 0xE0 → Scan m (i + 1) (0x80 ‥ 0xBF ∷ tails 0) i r → Scan m i [] i r
-    unfolding tails
-    lead-C2 p q s = begins _ r (due-C2 (getD m i 0) p q) s
-
-    pub lead-E0 : 0xE0 ≤ getD m i 0 → getD m i 0 < 0xE1 → Scan m (i + 1) (0xA0 ‥ 0xBF ∷ tails 1) i r → Scan m i [] i r
-    unfolding tails
-    lead-E0 p q s = begins _ r (due-E0 (getD m i 0) p q) s
-
-    pub lead-E1 : 0xE1 ≤ getD m i 0 → getD m i 0 < 0xED → Scan m (i + 1) (0x80 ‥ 0xBF ∷ tails 1) i r → Scan m i [] i r
-    unfolding tails
-    lead-E1 p q s = begins _ r (due-E1 (getD m i 0) p q) s
-
-    pub lead-ED : 0xED ≤ getD m i 0 → getD m i 0 < 0xEE → Scan m (i + 1) (0x80 ‥ 0x9F ∷ tails 1) i r → Scan m i [] i r
-    unfolding tails
-    lead-ED p q s = begins _ r (due-ED (getD m i 0) p q) s
-
-    pub lead-EE : 0xEE ≤ getD m i 0 → getD m i 0 < 0xF0 → Scan m (i + 1) (0x80 ‥ 0xBF ∷ tails 1) i r → Scan m i [] i r
-    unfolding tails
-    lead-EE p q s = begins _ r (due-EE (getD m i 0) p q) s
-
-    pub lead-F0 : 0xF0 ≤ getD m i 0 → getD m i 0 < 0xF1 → Scan m (i + 1) (0x90 ‥ 0xBF ∷ tails 2) i r → Scan m i [] i r
-    unfolding tails
-    lead-F0 p q s = begins _ r (due-F0 (getD m i 0) p q) s
-
-    pub lead-F1 : 0xF1 ≤ getD m i 0 → getD m i 0 < 0xF4 → Scan m (i + 1) (0x80 ‥ 0xBF ∷ tails 2) i r → Scan m i [] i r
-    unfolding tails
-    lead-F1 p q s = begins _ r (due-F1 (getD m i 0) p q) s
-
-    pub lead-F4 : 0xF4 ≤ getD m i 0 → getD m i 0 < 0xF5 → Scan m (i + 1) (0x80 ‥ 0x8F ∷ tails 2) i r → Scan m i [] i r
-    unfolding tails
-    lead-F4 p q s = begins _ r (due-F4 (getD m i 0) p q) s
+  -- where no bound is known above the byte
+  pub lead-last : (m : List ℕ) (i : ℕ) → i < length m → low ≤ getD m i 0 → T (unbroken rows low (suc (getD m i 0))) → first-byte rows low ≡ never → Scan m i [] i 0
+  lead-last m i h p t e = lead-none (suc (getD m i 0)) m i h p (omega arith) t e
 
 -- a character of two bytes
 pub two-not : (m : List ℕ) (i : ℕ) → Two m i false
 two-not m i = record { stands = λ e. absurd (false≢true e) }
 
 pub two-is : (m : List ℕ) (i : ℕ) (t : Bool) → i + 2 ≤ length m → 0xC2 ≤ getD m i 0 → getD m i 0 < 0xE0 → t ≡ has tail (getD m (i + 1) 0) → Two m i t
+unfolding rows first-byte unbroken
 two-is m i t h p q is = record { stands = passed }
   where
     passed : t ≡ true → Passed m i (i + 2)
@@ -200,7 +169,7 @@ two-is m i t h p q is = record { stands = passed }
           after = omega arith;
           fits = h;
           goes =
-              opens m i (due (tail ∷ [])) (omega arith) (due-C2 (getD m i 0) p q)
+              opens m i (due (tail ∷ [])) (omega arith) (alike 0xC2 0xE0 (getD m i 0) p q rows tt)
               ∙ follows m (i + 1) tail [] true (omega arith) (sym is ∙ e)
               ∙ ap (λ (j : ℕ). valid-utf8-seq (drop j m)) f;
         }

@@ -1,9 +1,11 @@
-use Rattle.wire.proofs.Utf8Laws.{lead-80, lead-C2, lead-F0, lead-F1, lead-F4, lead-F5}
+use Rattle.wire.proofs.Utf8Laws.{lead, lead-none, lead-last}
+use Rattle.format.specs.Utf8.{rows, first-byte}
+use Rattle.wire.specs.Scan.{tails}
+use Rattle.wire.proofs.Octets.{unbroken}
 use borrow.Author.Needs.{needs}
 use Rattle.wire.proofs.utf8.char_len.Statement.{statement}
 use Rattle.wire.proofs.utf8.char_len.Tie as tie
 
-ruleset laws = (lead-80, lead-C2, lead-F0, lead-F1, lead-F4, lead-F5, needs)
-
 pub char-len-spec : {M : Type 1} → statement M
-char-len-spec = tie.close (tie.spec (λ c. search laws) (λ c. search laws) (λ c κs. search laws) (λ c. search laws) (λ c κs. search laws) (λ c. search laws) (λ c κs. search laws) (λ c. search laws) (λ c κs. search laws) (λ c. search laws) (λ c κs. search laws) (λ c. search laws) (λ c. search laws))
+unfolding rows first-byte unbroken tails
+char-len-spec = tie.close (tie.spec (λ c. search needs) (λ c. search (lead-none 0x80, needs)) (λ c κs. search needs) (λ c. search (lead 0xC2, needs)) (λ c κs. search needs) (λ c. search needs) (λ c κs. search needs) (λ c. search (lead 0xF0, needs)) (λ c κs. search needs) (λ c. search (lead 0xF1, needs)) (λ c κs. search needs) (λ c. search (lead 0xF4, needs)) (λ c. search (lead-last 0xF5, needs)))

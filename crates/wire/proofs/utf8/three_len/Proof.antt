@@ -1,9 +1,11 @@
-use Rattle.wire.proofs.Utf8Laws.{lead-E0, lead-E1, lead-ED, lead-EE}
+use Rattle.wire.proofs.Utf8Laws.{lead}
+use Rattle.format.specs.Utf8.{rows, first-byte}
+use Rattle.wire.specs.Scan.{tails}
+use Rattle.wire.proofs.Octets.{unbroken}
 use borrow.Author.Needs.{needs}
 use Rattle.wire.proofs.utf8.three_len.Statement.{statement}
 use Rattle.wire.proofs.utf8.three_len.Tie as tie
 
-ruleset laws = (lead-E0, lead-E1, lead-ED, lead-EE, needs)
-
 pub three-len-spec : {M : Type 1} → statement M
-three-len-spec = tie.close (tie.spec (λ c. search laws) (λ c κs. search laws) (λ c. search laws) (λ c κs. search laws) (λ c. search laws) (λ c κs. search laws) (λ c. search laws) (λ c κs. search laws) (λ c. search laws))
+unfolding rows first-byte unbroken tails
+three-len-spec = tie.close (tie.spec (λ c. search needs) (λ c κs. search needs) (λ c. search (lead 0xE0, needs)) (λ c κs. search needs) (λ c. search (lead 0xE1, needs)) (λ c κs. search needs) (λ c. search (lead 0xED, needs)) (λ c κs. search needs) (λ c. search (lead 0xEE, needs)))
