@@ -9,9 +9,9 @@ use mathlib.Core.List.{List, [], _∷_, _++_}
 use lib.ListN.{length, getD}
 use Rattle.format.specs.Checks.{first, each, pair-checks}
 use Rattle.format.specs.Lent.{items, part-in, pair-in, bytes-at}
-use Rattle.wire.specs.Order.{compare-bytes}
+use Rattle.comparing.specs.Order.{compare-bytes}
 use Rattle.wire.specs.declared.Refusal.{Refusal}
-use Rattle.wire.specs.declared.Order.{Order}
+use Rattle.comparing.specs.declared.Order.{Order}
 use Rattle.index.specs.Index.{Sought, Shifted}
 use Rattle.index.specs.declared.Spot.{Spot}
 use Rattle.index.specs.declared.Spot.the-variants.{Found, At}

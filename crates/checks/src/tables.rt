@@ -4,7 +4,6 @@ use super::Checked;
 use super::fails;
 use wire::refusals::COUNT_OR_PART_TOO_LONG;
 use wire::refusals::TABLE_OR_PLACE;
-use wire::utf8;
 ghost use mathlib.Core.Path.{_≡_};
 ghost use Prim.Native.Nat.{_+_, _<_};
 ghost use lib.ListN.{length, getD};

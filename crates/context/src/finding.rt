@@ -3,7 +3,6 @@ use super::ContextAnswer;
 use super::FoundAnswer;
 use super::section;
 use request::Mode;
-use wire::comparing;
 use wire::refusals;
 use wire::refuse;
 ghost use mathlib.Core.Path.{_≡_};

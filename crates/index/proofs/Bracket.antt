@@ -7,10 +7,10 @@ use mathlib.Core.List.{List}
 use lib.ListN.{length, getD}
 use Rattle.format.specs.Fields.{Pair}
 use Rattle.format.specs.Context.{seen}
-use Rattle.wire.specs.Order.{compare-bytes, flip}
-use Rattle.wire.specs.declared.Order.{Order}
-use Rattle.wire.specs.declared.Order.the-variants.{Less, Equal, Greater}
-use Rattle.wire.proofs.Ordered.{Way, under, same, over, way, compare-equal, compare-flip, compare-trans}
+use Rattle.comparing.specs.Order.{compare-bytes, flip}
+use Rattle.comparing.specs.declared.Order.{Order}
+use Rattle.comparing.specs.declared.Order.the-variants.{Less, Equal, Greater}
+use Rattle.comparing.proofs.Ordered.{Way, under, same, over, way, compare-equal, compare-flip, compare-trans}
 use Rattle.index.specs.Index.{Index, Between, Sought}
 use Rattle.index.specs.declared.Spot.the-variants.{Found, At}
 

@@ -5,7 +5,7 @@ use mathlib.Core.Path.{_≡_, refl, sym, ap, _∙_}
 use mathlib.Core.List.{List}
 use lib.ListN.{length, getD, set, length-set}
 use lib.Seq.{getD-set-same, getD-set-other}
-use Rattle.wire.proofs.Ordered.{Way, under, same, over, way}
+use Rattle.comparing.proofs.Ordered.{Way, under, same, over, way}
 use Rattle.index.specs.Index.{Shifted}
 
 -- what stood from j to n has moved up

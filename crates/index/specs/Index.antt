@@ -7,9 +7,9 @@ use lib.ListN.{getD}
 use Rattle.format.specs.Serialize.{same-bytes}
 use Rattle.format.specs.Fields.{Pair}
 use Rattle.format.specs.Context.{seen}
-use Rattle.wire.specs.Order.{compare-bytes}
-use Rattle.wire.specs.declared.Order.{Order}
-use Rattle.wire.specs.declared.Order.the-variants.{Less, Greater}
+use Rattle.comparing.specs.Order.{compare-bytes}
+use Rattle.comparing.specs.declared.Order.{Order}
+use Rattle.comparing.specs.declared.Order.the-variants.{Less, Greater}
 use Rattle.index.specs.declared.Spot.{Spot}
 use Rattle.index.specs.declared.Spot.the-variants.{Found, At}
 

@@ -14,7 +14,7 @@ use Rattle.wire.specs.declared.Number.{Number}
 use Rattle.wire.specs.declared.Number.the-variants as number
 use Rattle.wire.specs.declared.Span.{Span}
 use Rattle.wire.specs.declared.Span.the-variants as span
-use Rattle.wire.specs.declared.Order.{Order}
+use Rattle.comparing.specs.declared.Order.{Order}
 use Rattle.leaves_c.specs.declared.LeafNumber.{LeafNumber}
 use Rattle.leaves_c.specs.declared.LeafPart.{LeafPart}
 use Rattle.leaves_c.specs.Exports.{number-fields, part-fields, number-record, part-record, truth, order-number, can-put}

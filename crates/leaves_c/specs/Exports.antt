@@ -9,14 +9,14 @@ use Rattle.format.specs.Serialize.{Part, same-bytes, write-short-length-seq}
 use Rattle.format.specs.Utf8.{valid-utf8-seq}
 use Rattle.format.specs.Lent.{bytes-at}
 use Rattle.wire.specs.Codes.{number-of, span-of}
-use Rattle.wire.specs.Order.{compare-bytes}
+use Rattle.comparing.specs.Order.{compare-bytes}
 use Rattle.wire.specs.Stored.{stored}
 use Rattle.wire.specs.declared.Number.{Number}
 use Rattle.wire.specs.declared.Number.the-variants as number
 use Rattle.wire.specs.declared.Span.{Span}
 use Rattle.wire.specs.declared.Span.the-variants as span
-use Rattle.wire.specs.declared.Order.{Order}
-use Rattle.wire.specs.declared.Order.the-variants.{Less, Equal, Greater}
+use Rattle.comparing.specs.declared.Order.{Order}
+use Rattle.comparing.specs.declared.Order.the-variants.{Less, Equal, Greater}
 use Rattle.leaves_c.specs.declared.LeafNumber.{LeafNumber}
 use Rattle.leaves_c.specs.declared.LeafPart.{LeafPart}
 

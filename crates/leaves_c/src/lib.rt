@@ -1,6 +1,6 @@
 // The leaves for a host program in C or Rust: numbers and structs of numbers cross the boundary by value.
 use wire::Number;
-use wire::Order;
+use comparing::Order;
 use wire::Span;
 ghost use mathlib.Core.Path.{_≡_};
 ghost use Prim.Native.Nat.{_+_};
@@ -133,7 +133,7 @@ pub extern "C" fn leaf_is_utf8(m: &[u8], start: u64, len: u64) -> u8
     ensures { λ r. ⌜ r ≡ utf8-number (now (m .entry)) start len ⌝ }
 {
     if lies_within(start, len, m.len() as u64) {
-        return truth_number(wire::utf8::part_is_utf8(m, start, len));
+        return truth_number(utf8::part_is_utf8(m, start, len));
     }
     3
 }
@@ -145,7 +145,7 @@ pub extern "C" fn leaf_same_parts(m: &[u8], a: u64, alen: u64, b: u64, blen: u64
 {
     if lies_within(a, alen, m.len() as u64) {
         if lies_within(b, blen, m.len() as u64) {
-            return truth_number(wire::comparing::same_parts(m, a, alen, b, blen));
+            return truth_number(comparing::same_parts(m, a, alen, b, blen));
         }
         return 3;
     }
@@ -169,7 +169,7 @@ pub extern "C" fn leaf_compare_parts(m: &[u8], a: u64, alen: u64, b: u64, blen: 
 {
     if lies_within(a, alen, m.len() as u64) {
         if lies_within(b, blen, m.len() as u64) {
-            return order_number(wire::comparing::compare_parts(m, a, alen, b, blen));
+            return order_number(comparing::compare_parts(m, a, alen, b, blen));
         }
         return 3;
     }

@@ -10,8 +10,8 @@ use lib.ListN.{length, getD}
 use Rattle.format.specs.Fields.{pair-of}
 use Rattle.format.specs.Lent.{bytes-at}
 use Rattle.steps.specs.Places.{entry-end}
-use Rattle.wire.specs.Order.{compare-bytes}
-use Rattle.wire.specs.declared.Order.{Order}
+use Rattle.comparing.specs.Order.{compare-bytes}
+use Rattle.comparing.specs.declared.Order.{Order}
 use Rattle.entries.specs.Places.{items-here, pair-here, pair-end, pairs-here, pairs-end}
 use Rattle.entries.specs.Codes.{EntryIs}
 use Rattle.entries.specs.declared.Entry.{Entry}

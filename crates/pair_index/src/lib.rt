@@ -4,13 +4,12 @@ use index::Spot;
 use index::insert;
 use index::last;
 use index::number;
-use wire::Order;
-use wire::comparing;
+use comparing::Order;
 ghost use mathlib.Core.Path.{_≡_};
 ghost use Prim.Native.Nat.{_+_, _≤_, _<_};
 ghost use lib.ListN.{length, getD};
 ghost use Rattle.format.specs.Lent.{bytes-at};
-ghost use Rattle.wire.specs.Order.{compare-bytes};
+ghost use Rattle.comparing.specs.Order.{compare-bytes};
 ghost use Rattle.index.specs.Index.{Sought};
 ghost use Rattle.pair_index.specs.Index.{key-of, KeyInside, first-pairs, Index, Ready, Added};
 

@@ -1,4 +1,2 @@
 pub mod Codes
-pub mod Scan
-pub mod Order
 pub mod Stored

@@ -1,10 +1,7 @@
-// The leaves of the codec: numbers, bytes and entries at a place of a message, UTF-8, equality and order of parts, and
-// writing into a lent output.
-pub mod comparing;
+// Numbers, bytes and entries: read at a place of a message, and written into a lent output; and the refusals.
 pub mod operations;
 pub mod reading;
 pub mod refusals;
-pub mod utf8;
 pub mod writing;
 
 ghost use mathlib.Core.Path.{_≡_};
@@ -46,13 +43,6 @@ pub enum Number {
 pub enum Span {
     At { start: u64, len: u64, tail: u64 },
     Not(Refusal),
-}
-
-// How two byte strings stand to each other: by the first byte that differs, and one that begins another comes before it.
-pub enum Order {
-    Less,
-    Equal,
-    Greater,
 }
 
 impl Number {

@@ -4,7 +4,6 @@ use super::Number;
 use super::Span;
 use super::refuse;
 use super::shortage;
-use super::utf8;
 ghost use mathlib.Core.Path.{_≡_};
 ghost use Prim.Native.Nat.{_+_, _≤_, _<_, _^_};
 ghost use lib.ListN.{length};

@@ -19,7 +19,8 @@ fn every_operation_on_generated_requests() {
         + writes::sections(&mut coverage)
         + writes::keys(&mut coverage)
         + writes::bodies(&mut coverage)
-        + writes::auth(&mut coverage);
+        + writes::auth(&mut coverage)
+        + writes::listings(&mut coverage);
     coverage.print();
     coverage.assert_complete();
     assert_eq!(coverage.operations(), LISTED.len());

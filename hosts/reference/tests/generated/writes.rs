@@ -3,6 +3,7 @@
 use crate::common::plain::{self, No};
 use crate::reads::{as_expected, number};
 use generator::auth_cases::auth_write_case;
+use generator::body_cases::body_case;
 use generator::body_write_cases::body_write_case;
 use generator::write_cases::{write_keys_case, write_section_case, WriteCase};
 use generator::Expected;
@@ -132,6 +133,23 @@ pub fn auth(coverage: &mut Coverage) -> u64 {
             }
             Err(_) => assert_eq!(out, case.out, "seed {seed}"),
         }
+    }
+    SEEDS
+}
+
+/// The text itself is held against other means in `listings`.
+pub fn listings(coverage: &mut Coverage) -> u64 {
+    const SEEDS: u64 = 50_000;
+    for seed in 0..SEEDS {
+        let mut message = body_case(seed).message;
+        // What the program would ignore.
+        message.truncate(65_536);
+        let text = listing(&message);
+        let before = vec![seed as u8; text.len() + seed as usize % 3 - 1];
+        let mut out = before.clone();
+        let answer = write_listing(&message, &mut out);
+        coverage.count("write listing", number(&answer));
+        output_is(seed, answer, (&before, &out), Ok(text));
     }
     SEEDS
 }

@@ -1,9 +1,0 @@
-use Rattle.wire.proofs.Utf8Laws.{valid-part}
-use borrow.Author.Needs.{needs}
-use Rattle.wire.proofs.utf8.part_is_utf8.Statement.{statement}
-use Rattle.wire.proofs.utf8.part_is_utf8.Tie as tie
-
-ruleset laws = (valid-part, needs)
-
-pub part-is-utf8-spec : {M : Type 1} → statement M
-part-is-utf8-spec = tie.close (tie.spec (λ c. search laws) (λ c. search laws) (λ c. search laws) (λ c. search laws) (λ c κs. search laws) (λ c. search laws))
