@@ -1,9 +1,9 @@
 // Refusal 12, by an ordered index of the keys of the pairs before: numbers of pairs, in the order of their keys.
 use super::tables::number;
+use comparing::Order;
 use index::Spot;
 use index::insert;
 use index::last;
-use comparing::Order;
 ghost use mathlib.Core.Path.{_≡_};
 ghost use Prim.Native.Nat.{_*_, _≤_, _<_};
 ghost use lib.ListN.{length, getD};

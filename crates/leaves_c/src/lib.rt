@@ -1,6 +1,6 @@
 // The leaves for a host program in C or Rust: numbers and structs of numbers cross the boundary by value.
-use wire::Number;
 use comparing::Order;
+use wire::Number;
 use wire::Span;
 ghost use mathlib.Core.Path.{_≡_};
 ghost use Prim.Native.Nat.{_+_};

@@ -15,11 +15,11 @@ use Rattle.wire.specs.Codes.{because}
 use Rattle.wire.specs.Stored.{stored}
 use Rattle.checks.specs.declared.WriteAnswer.{WriteAnswer}
 use Rattle.checks.specs.declared.WriteAnswer.the-variants.{Written, Refused}
-use Rattle.listing_text.specs.Put.{Room, Put}
+use Rattle.text.specs.Put.{Room, Put}
 use Rattle.listing_text.specs.Listing.{word-data}
 use Rattle.listing_text.specs.Answers.{Lists, part-text, data-text, body-text, body-size, BodyThere}
 use Rattle.body_reader.specs.declared.HeaderBody.{HeaderBody}
-use Rattle.listing_text.proofs.Puts.{put-nothing}
+use Rattle.text.proofs.Puts.{put-nothing}
 use Rattle.listing_text.proofs.TextSizes.{text-long}
 
 module _ (text d : List ℕ) where

@@ -25,9 +25,10 @@ use Rattle.format.proofs.Messages.{operation-long, refused-is-no-accepted}
 use Rattle.format.proofs.Listed.{refusals}
 use Rattle.format.proofs.Wanted.{nearness}
 use Rattle.format.proofs.Demand3.{demand-3}
-use Rattle.listing_text.specs.Listing.{hex-field, line, lines, word-id, word-pair, word-key, word-data, header-line, part-line, body-listing, refusal-listing, listing-of, listing}
+use Rattle.text.specs.Text.{line}
+use Rattle.listing_text.specs.Listing.{hex-field, lines, word-id, word-pair, word-key, word-data, header-line, part-line, body-listing, refusal-listing, listing-of, listing}
 use Rattle.listing_text.specs.Bound.{ListingFits}
-use Rattle.listing_text.proofs.Decimals.{decimal-few}
+use Rattle.text.proofs.Decimals.{decimal-few}
 use Rattle.listing_text.proofs.SizeLaws.{hex-long, field-long, line-long, header-long, refusal-long}
 
 -- a line for each item, and the item's bytes

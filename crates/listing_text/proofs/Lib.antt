@@ -1,8 +1,3 @@
-pub mod Decimals
-pub mod Puts
-pub mod Going
-pub mod Loops
-pub mod LineLaws
 pub mod SizeLaws
 pub mod AnswerLaws
 pub mod TextSizes

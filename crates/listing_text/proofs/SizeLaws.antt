@@ -10,9 +10,10 @@ use Rattle.format.specs.Lent.{items, here}
 use borrow.Author.Tests.{eq-eqb, ne-eqb}
 use Rattle.body_reader.specs.declared.HeaderBody.{HeaderBody}
 use Rattle.listing_text.specs.Answers.{tables-size, data-size, body-size}
-use Rattle.listing_text.specs.Listing.{hex, decimal, field, line, decimal-field, number-fields, header-fields, word-header, word-refused}
-use Rattle.listing_text.specs.Put.{part-size, parts-size}
-use Rattle.listing_text.proofs.Going.{items-step, items-none}
+use Rattle.text.specs.Text.{hex, decimal, field, line, decimal-field}
+use Rattle.listing_text.specs.Listing.{number-fields, header-fields, word-header, word-refused}
+use Rattle.text.specs.Put.{part-size, parts-size}
+use Rattle.text.proofs.Going.{items-step, items-none}
 
 pub hex-long : (l : List ℕ) → length (hex l) ≡ 2 * length l
 unfolding images

@@ -8,8 +8,9 @@ use lib.Seq.{drop-drop, drop-at, getD-drop}
 use Rattle.format.specs.Serialize.{Part, images}
 use Rattle.format.specs.Lent.{bytes-at, place, items, here, part-in}
 use Rattle.format.specs.Demand3.{Held, Each}
-use Rattle.listing_text.specs.Listing.{hex, field, hex-field, lines}
-use Rattle.listing_text.specs.Put.{There, PartThere, ItemThere, texts, part-field, item-line}
+use Rattle.text.specs.Text.{hex, field}
+use Rattle.listing_text.specs.Listing.{hex-field, lines}
+use Rattle.text.specs.Put.{There, PartThere, ItemThere, texts, part-field, item-line}
 
 pub images-append : {B C : Type 0} (f : B → List C) (xs ys : List B) → images f (xs ++ ys) ≡ images f xs ++ images f ys
 unfolding images

@@ -11,8 +11,9 @@ use Rattle.format.specs.Serialize.{images, sum}
 use Rattle.format.specs.Lent.{bytes-at, items, here, part-in}
 use Rattle.format.specs.Demand3.{Each}
 use Rattle.body_reader.specs.declared.HeaderBody.{HeaderBody}
-use Rattle.listing_text.specs.Listing.{hex, word-pair, word-key, word-data}
-use Rattle.listing_text.specs.Put.{There, PartThere, ItemThere, texts, part-field, item-line, part-size}
+use Rattle.text.specs.Text.{hex}
+use Rattle.listing_text.specs.Listing.{word-pair, word-key, word-data}
+use Rattle.text.specs.Put.{There, PartThere, ItemThere, texts, part-field, item-line, part-size}
 use Rattle.listing_text.specs.Answers.{part-text, front-text, tables-text, data-text, body-text, tables-size, data-size, body-size, TableThere, BodyThere}
 use Rattle.listing_text.proofs.SizeLaws.{hex-long, field-long, line-long}
 

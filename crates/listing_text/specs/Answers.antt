@@ -17,8 +17,9 @@ use Rattle.checks.specs.declared.WriteAnswer.{WriteAnswer}
 use Rattle.body_reader.specs.Codes.{ReadsBody}
 use Rattle.body_reader.specs.declared.HeaderBody.{HeaderBody}
 use Rattle.body_reader.specs.declared.HeaderBodyAnswer.{HeaderBodyAnswer}
-use Rattle.listing_text.specs.Listing.{hex, field, line, header-fields, word-header, word-id, word-pair, word-key, word-data}
-use Rattle.listing_text.specs.Put.{There, All, ItemThere, texts, item-line, parts-size}
+use Rattle.text.specs.Text.{hex, field, line}
+use Rattle.listing_text.specs.Listing.{header-fields, word-header, word-id, word-pair, word-key, word-data}
+use Rattle.text.specs.Put.{There, All, ItemThere, texts, item-line, parts-size}
 
 -- a text to write: no refusal but 28, that it is longer than the output
 abbrev pub writing-text : List ℕ → Writing

@@ -7,7 +7,8 @@ use lib.ListN.{take}
 use Rattle.format.specs.Serialize.{images}
 use Rattle.format.specs.Cases.{H, opened}
 use Rattle.format.specs.Headers.{H-with, bytes-from, V2}
-use Rattle.listing_text.specs.Listing.{decimal-in, decimal, field, line, lines, number-fields, body-listing, listing}
+use Rattle.text.specs.Text.{decimal-in, decimal, field, line}
+use Rattle.listing_text.specs.Listing.{lines, number-fields, body-listing, listing}
 
 -- to unfold this is to unfold all that a listing is made of
 unfoldable pub listed : Unit {0}

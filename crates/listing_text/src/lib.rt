@@ -1,7 +1,5 @@
 // The listing of a message as text: what document 01's listing program writes.
-pub mod fields;
 pub mod lines;
-pub mod numerals;
 pub mod sizes;
 
 use body_reader::HeaderBody;
@@ -9,7 +7,6 @@ use body_reader::HeaderBodyAnswer;
 use body_reader::read_header_body;
 use checks::WriteAnswer;
 use checks::refuses;
-use fields::put_items;
 use lines::put_header;
 use lines::put_part_line;
 use lines::put_refusal;
@@ -19,9 +16,10 @@ use request::Request;
 use request::Which;
 use sizes::body_size;
 use sizes::refusal_size;
+use text::fields::put_items;
 use wire::refusals::OUTPUT_TOO_SHORT;
 ghost use Rattle.listing_text.specs.Listing.{refusal-listing, listing};
-ghost use Rattle.listing_text.specs.Put.{Room, Put, There};
+ghost use Rattle.text.specs.Put.{Room, Put, There};
 ghost use Rattle.listing_text.specs.Answers.{Lists, front-text, tables-text, data-text, body-text, TableThere, BodyThere, Reading};
 
 fn write_refusal(number: u64, position: u64, out: &mut [u8]) -> WriteAnswer

@@ -1,12 +1,13 @@
 // The lines that are one in a listing: the header's, the parts by themselves, the refusal's.
-use super::fields::put_decimal_field;
-use super::fields::put_hex_field;
-use super::fields::put_line_end;
-use super::fields::put_word;
+use text::fields::put_decimal_field;
+use text::fields::put_hex_field;
+use text::fields::put_line_end;
+use text::fields::put_word;
 ghost use mathlib.Core.List.{_++_};
 ghost use Rattle.format.specs.Lent.{bytes-at};
-ghost use Rattle.listing_text.specs.Listing.{hex, field, line, decimal-field, number-field, number-fields, header-fields, word-header, word-refused};
-ghost use Rattle.listing_text.specs.Put.{Room, Put, There};
+ghost use Rattle.text.specs.Text.{hex, field, line, decimal-field};
+ghost use Rattle.listing_text.specs.Listing.{number-field, number-fields, header-fields, word-header, word-refused};
+ghost use Rattle.text.specs.Put.{Room, Put, There};
 
 // A number of one byte, in its two digits.
 fn put_u8_field(x: u64, out: &mut [u8], at: usize) -> usize

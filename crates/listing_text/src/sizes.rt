@@ -1,19 +1,15 @@
 // How long the lines are, before any is written.
-use super::numerals::decimal_size;
 use body_reader::HeaderBody;
+use text::fields::wide;
+use text::numerals::decimal_size;
 ghost use mathlib.Core.Path.{_≡_};
 ghost use mathlib.Core.List.{_++_};
 ghost use Prim.Native.Nat.{_+_, _*_, _≤_, _<_};
 ghost use lib.ListN.{length};
-ghost use Rattle.listing_text.specs.Listing.{line, decimal-field, header-fields, word-header, word-refused};
-ghost use Rattle.listing_text.specs.Put.{parts-size as parts-size-by};
+ghost use Rattle.text.specs.Text.{line, decimal-field};
+ghost use Rattle.listing_text.specs.Listing.{header-fields, word-header, word-refused};
+ghost use Rattle.text.specs.Put.{parts-size as parts-size-by};
 ghost use Rattle.listing_text.specs.Answers.{Sized, tables-size as tables-size-by, data-size as data-size-by, body-size as body-size-by};
-
-pub fn wide(x: u32) -> usize
-    ensures { λ r. ⌜ (r ≡ x) × (r < 4294967296) ⌝ }
-{
-    x as usize
-}
 
 // The fields of the first n parts of the table.
 pub fn parts_size(table: &[u32], n: usize) -> usize

@@ -1,10 +1,10 @@
 // An ordered index of the keys of pairs, so that a key that was seen before is found by halving. The index holds, in the
 // order of the keys, how far behind the first pair each pair stands.
+use comparing::Order;
 use index::Spot;
 use index::insert;
 use index::last;
 use index::number;
-use comparing::Order;
 ghost use mathlib.Core.Path.{_≡_};
 ghost use Prim.Native.Nat.{_+_, _≤_, _<_};
 ghost use lib.ListN.{length, getD};

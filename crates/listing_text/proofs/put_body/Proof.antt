@@ -1,5 +1,5 @@
 use Rattle.listing_text.specs.Answers.{body-text}
-use Rattle.listing_text.proofs.Puts.{room-first, room-second, room-last, put-three}
+use Rattle.text.proofs.Puts.{room-first, room-second, room-last, put-three}
 use borrow.Author.Needs.{needs}
 use Rattle.listing_text.proofs.put_body.Statement.{statement}
 use Rattle.listing_text.proofs.put_body.Tie as tie

@@ -1,5 +1,5 @@
 use Rattle.listing_text.specs.Answers.{front-text}
-use Rattle.listing_text.proofs.Puts.{room-first, room-next, put-then}
+use Rattle.text.proofs.Puts.{room-first, room-next, put-then}
 use borrow.Author.Needs.{needs}
 use Rattle.listing_text.proofs.put_front.Statement.{statement}
 use Rattle.listing_text.proofs.put_front.Tie as tie

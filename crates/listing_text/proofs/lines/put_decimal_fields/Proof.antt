@@ -1,4 +1,4 @@
-use Rattle.listing_text.proofs.Puts.{room-first, room-next, put-then}
+use Rattle.text.proofs.Puts.{room-first, room-next, put-then}
 use borrow.Author.Needs.{needs}
 use Rattle.listing_text.proofs.lines.put_decimal_fields.Statement.{statement}
 use Rattle.listing_text.proofs.lines.put_decimal_fields.Tie as tie

@@ -1,4 +1,4 @@
-use Rattle.listing_text.proofs.Puts.{room-first, room-second, room-last, put-three}
+use Rattle.text.proofs.Puts.{room-first, room-second, room-last, put-three}
 use borrow.Author.Needs.{needs}
 use Rattle.listing_text.proofs.lines.put_header_fields.Statement.{statement}
 use Rattle.listing_text.proofs.lines.put_header_fields.Tie as tie

@@ -1,5 +1,5 @@
 use Rattle.listing_text.specs.Listing.{number-fields}
-use Rattle.listing_text.proofs.Puts.{room-first, room-second, room-last, put-three}
+use Rattle.text.proofs.Puts.{room-first, room-second, room-last, put-three}
 use borrow.Author.Needs.{needs}
 use Rattle.listing_text.proofs.lines.put_number_fields.Statement.{statement}
 use Rattle.listing_text.proofs.lines.put_number_fields.Tie as tie

@@ -1,0 +1,5 @@
+pub mod Decimals
+pub mod Puts
+pub mod Going
+pub mod Loops
+pub mod LineLaws
