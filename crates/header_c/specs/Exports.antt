@@ -3,12 +3,9 @@ use Prim.Native.Nat.{ℕ}
 use mathlib.Core.Path.{_≡_}
 use mathlib.Core.List.{List}
 use lib.ListN.{length}
-use Rattle.format.specs.Read.{Answer, accepted, refused, operation}
+use Rattle.format.specs.Read.{Answer, accepted, refused}
 use Rattle.format.specs.Serialize.{Part}
 use Rattle.format.specs.Fields.{HeaderBody as BodyRead}
-use Rattle.format.specs.Context.{tolerant}
-use Rattle.format.specs.Keys.{no-max}
-use Rattle.format.specs.Body.{either, read-header-body}
 use Rattle.format.specs.Auth.{no-header-auth}
 use Rattle.format.specs.Auth.{HeaderAuth as AuthTag}
 use Rattle.format.specs.Lent.{pair-table-after, key-table-after, Writing, written, output-after, BodyToWrite}
@@ -110,10 +107,7 @@ pub record ReadsBody (o : Answer BodyRead) (pairs pairs′ keys keys′ : List �
   pub pairTable : pairs′ ≡ pair-table-after o pairs
   pub keyTable : keys′ ≡ key-table-after o keys
 
--- a header at a start, read as the listing program does; its number and its position
-abbrev pub as-listed : List ℕ → ℕ → Answer BodyRead
-as-listed m start = operation (read-header-body either tolerant no-max 4096 4096) m start
-
+-- a header's number and its position
 abbrev pub answer-number : Answer BodyRead → ℕ
 answer-number (accepted b t) = 0
 answer-number (refused k p) = k

@@ -3,27 +3,18 @@
 use crate::HeaderWritten;
 use crate::writers::written_record;
 use body_reader::HeaderBodyAnswer;
-use request::Max;
-use request::Mode;
-use request::Request;
-use request::Which;
 ghost use mathlib.Core.Path.{_≡_};
 ghost use Rattle.body_reader.specs.Codes.{body-of};
-ghost use Rattle.listing_text.specs.Listing.{listing};
+ghost use Rattle.listing_text.specs.Listing.{as-listed, listing};
 ghost use Rattle.listing_text.specs.Answers.{writing-text};
-ghost use Rattle.header_c.specs.Exports.{as-listed, answer-number, answer-position, Writes};
+ghost use Rattle.header_c.specs.Exports.{answer-number, answer-position, Writes};
 
-fn read_as_listed(m: &[u8], start: u64) -> HeaderBodyAnswer
+fn answer_at(m: &[u8], start: u64) -> HeaderBodyAnswer
     ensures { λ r. ⌜ r ≡ body-of (as-listed (now (m .entry)) start) ⌝ }
 {
     let mut pairs = [0u32; 4096];
     let mut keys = [0u32; 4096];
-    let request = Request {
-        which: Which::Either,
-        mode: Mode::Tolerant,
-        max: Max::None,
-    };
-    body_reader::read_header_body(m, start, request, &mut pairs, &mut keys)
+    listing_text::read_as_listed(m, start, &mut pairs, &mut keys)
 }
 
 // 0 where the header at the start is accepted, else the refusal's number.
@@ -31,7 +22,7 @@ fn read_as_listed(m: &[u8], start: u64) -> HeaderBodyAnswer
 pub extern "C" fn header_number(m: &[u8], start: u64) -> u32
     ensures { λ r. ⌜ r ≡ answer-number (as-listed (now (m .entry)) start) ⌝ }
 {
-    let a = read_as_listed(m, start);
+    let a = answer_at(m, start);
     match a {
         HeaderBodyAnswer::Accepted { body: _, tail: _ } => 0,
         HeaderBodyAnswer::Refused(q) => q.number as u32,
@@ -43,7 +34,7 @@ pub extern "C" fn header_number(m: &[u8], start: u64) -> u32
 pub extern "C" fn header_position(m: &[u8], start: u64) -> u64
     ensures { λ r. ⌜ r ≡ answer-position (as-listed (now (m .entry)) start) ⌝ }
 {
-    let a = read_as_listed(m, start);
+    let a = answer_at(m, start);
     match a {
         HeaderBodyAnswer::Accepted { body: _, tail } => tail,
         HeaderBodyAnswer::Refused(q) => q.position,

@@ -21,14 +21,15 @@ use Rattle.format.proofs.Serialize.{length-uint16, length-uint32, length-entry}
 use Rattle.format.proofs.Context.{length-pair}
 use Rattle.format.proofs.Accepts.{good}
 use Rattle.format.proofs.Firsts.{both}
-use Rattle.format.proofs.Messages.{operation-long, refused-is-no-accepted}
+use Rattle.format.proofs.Messages.{operation-long}
 use Rattle.format.proofs.Listed.{refusals}
 use Rattle.format.proofs.Wanted.{nearness}
 use Rattle.format.proofs.Demand3.{demand-3}
 use Rattle.text.specs.Text.{line}
-use Rattle.listing_text.specs.Listing.{hex-field, lines, word-id, word-pair, word-key, word-data, header-line, part-line, body-listing, refusal-listing, listing-of, listing}
+use Rattle.listing_text.specs.Listing.{hex-field, lines, word-id, word-pair, word-key, word-data, header-line, part-line, body-listing, refusal-listing, listing-of, as-listed, listing}
 use Rattle.listing_text.specs.Bound.{ListingFits}
 use Rattle.text.proofs.Decimals.{decimal-few}
+use Rattle.listing_text.proofs.Joint.{few-bytes}
 use Rattle.listing_text.proofs.SizeLaws.{hex-long, field-long, line-long, header-long, refusal-long}
 
 -- a line for each item, and the item's bytes
@@ -149,13 +150,10 @@ refusal-short k p few near =
     omega arith
 
 module _ (m : List ℕ) (hb : Bytes m) where
-  abbrev said : Answer HeaderBody
-  said = operation (read-header-body either tolerant no-max 4096 4096) m 0
-
-  accepted-fits : (b : HeaderBody) (t : ℕ) → said ≡ accepted b t → length (body-listing b t) ≤ 2 * length m + 28
+  accepted-fits : (b : HeaderBody) (t : ℕ) → as-listed m 0 ≡ accepted b t → length (body-listing b t) ≤ 2 * length m + 28
   unfolding fields-of
   accepted-fits b t e =
-      let few : length m ≤ 4294967295 = by-contra (length m) 4294967295 (λ h. refused-is-no-accepted (sym (operation-long (read-header-body either tolerant no-max 4096 4096) m 0 h) ∙ e)) in
+      let few : length m ≤ 4294967295 = few-bytes m b t e in
       let z = demand-3 .sentence-1 no-max 4096 4096 m 0 hb .only few b t e in
       let v : z .1 .version ≡ b .version = sym (ap (λ (f : Fields). f .version) (z .3 .fields)) in
       let f : z .1 .frameLength ≡ b .frameLength = sym (ap (λ (f : Fields). f .frameLength) (z .3 .fields)) in
@@ -171,7 +169,7 @@ module _ (m : List ℕ) (hb : Bytes m) where
   asked = request either tolerant true no-max 4096 4096
 
   -- a position that is wanted lies near behind the end of a message that is not too long, and any other is 0
-  position-few : (k p : ℕ) → said ≡ refused k p → Refusal (body-refusals asked) m k p → p < 10000000000
+  position-few : (k p : ℕ) → as-listed m 0 ≡ refused k p → Refusal (body-refusals asked) m k p → p < 10000000000
   unfolding read-header-body
   position-few k p e h = by (eqb k 2) refl
     where
@@ -183,7 +181,7 @@ module _ (m : List ℕ) (hb : Bytes m) where
           omega arith
       by false q = let none : p ≡ 0 = h .otherwise-0 (eqb-false k 2 q) in omega arith
 
-  answer-fits : (a : Answer HeaderBody) → said ≡ a → length (listing-of a) ≤ 2 * length m + 28
+  answer-fits : (a : Answer HeaderBody) → as-listed m 0 ≡ a → length (listing-of a) ≤ 2 * length m + 28
   unfolding read-header-body body-refusals opening-refusals section-refusals closing-refusals every
   answer-fits (accepted b t) e = accepted-fits b t e
   answer-fits (refused k p) e =
@@ -193,7 +191,7 @@ module _ (m : List ℕ) (hb : Bytes m) where
 
   pub two-a-byte : length (listing m) ≤ 2 * length m + 28
   unfolding listing
-  two-a-byte = answer-fits said refl
+  two-a-byte = answer-fits (as-listed m 0) refl
 
 pub listing-fits : ListingFits
 listing-fits = record { two-a-byte = two-a-byte; in-the-program = λ m hb h. (let w = two-a-byte m hb in omega arith) }

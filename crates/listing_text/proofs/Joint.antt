@@ -23,7 +23,7 @@ use Rattle.body_reader.specs.Codes.{body-code, body-of, ReadsBody}
 use Rattle.body_reader.specs.declared.HeaderBody.{HeaderBody}
 use Rattle.body_reader.specs.declared.HeaderBodyAnswer.{HeaderBodyAnswer}
 use Rattle.body_reader.specs.declared.HeaderBodyAnswer.the-variants.{Accepted, Refused}
-use Rattle.listing_text.specs.Listing.{lines, word-id, word-pair, word-key, header-line, part-line, data-line, body-listing, refusal-listing, listing}
+use Rattle.listing_text.specs.Listing.{lines, word-id, word-pair, word-key, header-line, part-line, data-line, body-listing, refusal-listing, as-listed, listing}
 use Rattle.listing_text.specs.Answers.{Lists, items-text, front-text, tables-text, data-text, body-text, TableThere, BodyThere, Reading}
 use Rattle.checks.specs.declared.WriteAnswer.{WriteAnswer}
 use Rattle.listing_text.proofs.Tables.{there-is, places-long, Lined, items-stand}
@@ -69,28 +69,25 @@ module _ (m before table : List ℕ) (room : length before ≡ 4096) {A : Type 0
   table-text = lined .text
 
 -- an accepted header
+pub few-bytes : (m : List ℕ) (b : BodyRead) (t : ℕ) → as-listed m 0 ≡ accepted b t → length m ≤ 4294967295
+few-bytes m b t e = by-contra (length m) 4294967295 (λ h. refused-is-no-accepted (sym (operation-long _ m 0 h) ∙ e))
+
 module _ (m : List ℕ) (a : HeaderBodyAnswer) (pairs keys : List ℕ) (w : Reading m a pairs keys) where
-  abbrev said : Answer BodyRead
-  said = operation (read-header-body either tolerant no-max 4096 4096) m 0
-
-  module _ (b : BodyRead) (t : ℕ) (e : said ≡ accepted b t) where
-    few-bytes : length m ≤ 4294967295
-    few-bytes = by-contra (length m) 4294967295 (λ h. refused-is-no-accepted (sym (operation-long (read-header-body either tolerant no-max 4096 4096) m 0 h) ∙ e))
-
+  module _ (b : BodyRead) (t : ℕ) (e : as-listed m 0 ≡ accepted b t) where
     held : HeldBody m b
-    held = demand-3 .sentence-1 no-max 4096 4096 m 0 (w .bytes) .only few-bytes b t e .3 .placed
+    held = demand-3 .sentence-1 no-max 4096 4096 m 0 (w .bytes) .only (few-bytes m b t e) b t e .3 .placed
 
     pairs-fit : 2 * (2 * length (b .pairs)) ≤ 4096
     unfolding fields-of
     pairs-fit =
-        let z = demand-3 .sentence-1 no-max 4096 4096 m 0 (w .bytes) .only few-bytes b t e in
+        let z = demand-3 .sentence-1 no-max 4096 4096 m 0 (w .bytes) .only (few-bytes m b t e) b t e in
         let n : length (z .1 .pairs) ≡ length (b .pairs) = rw (← z .3 .fields) (length-map (b .pairs) pair-of) in
         omega (arith, z .2 .pairs-held)
 
     keys-fit : 2 * (3 * length (b .keys)) ≤ 4096
     unfolding fields-of
     keys-fit =
-        let z = demand-3 .sentence-1 no-max 4096 4096 m 0 (w .bytes) .only few-bytes b t e in
+        let z = demand-3 .sentence-1 no-max 4096 4096 m 0 (w .bytes) .only (few-bytes m b t e) b t e in
         let n : length (z .1 .keys) ≡ length (b .keys) = rw (← z .3 .fields) (length-map (b .keys) key-of) in
         omega (arith, z .2 .keys-held)
 
@@ -103,7 +100,7 @@ module _ (m : List ℕ) (a : HeaderBodyAnswer) (pairs keys : List ℕ) (w : Read
     body-there : BodyThere m (body-code b) pairs keys
     body-there =
         record {
-          short = omega (arith, few-bytes);
+          short = omega (arith, few-bytes m b t e);
           messageId = there-is m (b .messageId) (held .messageId);
           suiteData = there-is m (b .suiteData) (held .suiteData);
           pairs-there = table-there m (w .pairsBefore) pairs (w .pairRoom) word-pair pair-places 2 (λ x. refl) (omega arith) (b .pairs) pair-table pairs-fit (held .pairs);
@@ -120,14 +117,14 @@ module _ (m : List ℕ) (a : HeaderBodyAnswer) (pairs keys : List ℕ) (w : Read
 
   module _ (x : HeaderBody) (t : ℕ) (f : a ≡ Accepted x t) where
     pub answer-there : BodyThere m x pairs keys
-    answer-there = let y = was said a (w .reads .answer) x t f in rw (y .code) (body-there (y .body) t (y .is))
+    answer-there = let y = was (as-listed m 0) a (w .reads .answer) x t f in rw (y .code) (body-there (y .body) t (y .is))
 
     pub answer-listed : (d o : List ℕ) (r : WriteAnswer) → Lists (body-text m x t pairs keys) d o r → Lists (listing m) d o r
-    answer-listed d o r l = let y = was said a (w .reads .answer) x t f in rw (← body-is (y .body) t (y .is), ← y .code) l
+    answer-listed d o r l = let y = was (as-listed m 0) a (w .reads .answer) x t f in rw (← body-is (y .body) t (y .is), ← y .code) l
 
   pub refusal-listed : (q : Refusal) → a ≡ Refused q → (d o : List ℕ) (r : WriteAnswer) → Lists (refusal-listing (q .number) (q .position)) d o r → Lists (listing m) d o r
   unfolding listing
-  refusal-listed q f d o r l = rw (was-refused said a (w .reads .answer) q f) l
+  refusal-listed q f d o r l = rw (was-refused (as-listed m 0) a (w .reads .answer) q f) l
 
 -- the elements of a message are bytes
 pub bytes-of : (m : List ℕ) → ((i : ℕ) → Fits w8 (getD m i 0)) → Bytes m

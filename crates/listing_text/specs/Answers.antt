@@ -6,11 +6,7 @@ use mathlib.Core.List.{List, [], _++_}
 use Prim.Native.Nat.{ℕ, _+_, _*_, _≤_, _<_}
 use lib.Dec.{eqb}
 use lib.ListN.{length}
-use Rattle.format.specs.Read.{operation}
 use Rattle.format.specs.Serialize.{Bytes}
-use Rattle.format.specs.Context.{tolerant}
-use Rattle.format.specs.Keys.{no-max}
-use Rattle.format.specs.Body.{either, read-header-body}
 use Rattle.format.specs.Lent.{bytes-at, Writing}
 use Rattle.checks.specs.Answers.{Writes}
 use Rattle.checks.specs.declared.WriteAnswer.{WriteAnswer}
@@ -18,7 +14,7 @@ use Rattle.body_reader.specs.Codes.{ReadsBody}
 use Rattle.body_reader.specs.declared.HeaderBody.{HeaderBody}
 use Rattle.body_reader.specs.declared.HeaderBodyAnswer.{HeaderBodyAnswer}
 use Rattle.text.specs.Text.{hex, field, line}
-use Rattle.listing_text.specs.Listing.{header-fields, word-header, word-id, word-pair, word-key, word-data}
+use Rattle.listing_text.specs.Listing.{as-listed, header-fields, word-header, word-id, word-pair, word-key, word-data}
 use Rattle.text.specs.Put.{There, All, ItemThere, texts, item-line, parts-size}
 
 -- a text to write: no refusal but 28, that it is longer than the output
@@ -86,4 +82,4 @@ pub record Reading (m : List ℕ) (a : HeaderBodyAnswer) (pairs keys : List ℕ)
   pub pairRoom : length pairsBefore ≡ 4096
   pub keyRoom : length keysBefore ≡ 4096
   pub bytes : Bytes m
-  pub reads : ReadsBody (operation (read-header-body either tolerant no-max 4096 4096) m 0) pairsBefore pairs keysBefore keys a
+  pub reads : ReadsBody (as-listed m 0) pairsBefore pairs keysBefore keys a

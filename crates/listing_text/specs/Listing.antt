@@ -75,6 +75,11 @@ abbrev pub listing-of : Answer HeaderBody → List ℕ
 listing-of (accepted b t) = body-listing b t
 listing-of (refused k p) = refusal-listing k p
 
--- the listing program reads at start 0, either version, tolerantly, with no maximum and tables of 4,096 numbers
+-- a header as the listing program and a host's two calls read it: either version, tolerantly, with no maximum and tables of
+-- 4,096 numbers
+abbrev pub as-listed : List ℕ → ℕ → Answer HeaderBody
+as-listed m start = operation (read-header-body either tolerant no-max 4096 4096) m start
+
+-- the header at the front
 unfoldable pub listing : List ℕ → List ℕ
-listing m = listing-of (operation (read-header-body either tolerant no-max 4096 4096) m 0)
+listing m = listing-of (as-listed m 0)

@@ -18,6 +18,12 @@ use sizes::body_size;
 use sizes::refusal_size;
 use text::fields::put_items;
 use wire::refusals::OUTPUT_TOO_SHORT;
+ghost use lib.ListN.{length};
+ghost use Rattle.format.specs.Read.{operation};
+ghost use Rattle.format.specs.Context.{tolerant};
+ghost use Rattle.format.specs.Keys.{no-max};
+ghost use Rattle.format.specs.Body.{either, read-header-body};
+ghost use Rattle.body_reader.specs.Codes.{ReadsBody};
 ghost use Rattle.listing_text.specs.Listing.{refusal-listing, listing};
 ghost use Rattle.text.specs.Put.{Room, Put, There};
 ghost use Rattle.listing_text.specs.Answers.{Lists, front-text, tables-text, data-text, body-text, TableThere, BodyThere, Reading};
@@ -152,18 +158,29 @@ fn write_answer(
     }
 }
 
-// Reads as the listing program does: start 0, either version, tolerant, no maximum, tables of 4,096 numbers. 28, and no other
-// refusal: the text is longer than the output.
-pub fn write_listing(m: &[u8], out: &mut [u8]) -> WriteAnswer
-    ensures { λ r. ⌜ Lists (listing (now (m .entry))) (now (out .entry)) (now (out .exit)) r ⌝ }
+// Either version, tolerant, no maximum: how a header is read that is listed.
+pub fn read_as_listed(
+    m: &[u8],
+    start: u64,
+    pairs: &mut [u32],
+    keys: &mut [u32],
+) -> HeaderBodyAnswer
+    ensures { λ r. ⌜ ReadsBody (operation (read-header-body either tolerant no-max (length (now (pairs .entry))) (length (now (keys .entry)))) (now (m .entry)) start) (now (pairs .entry)) (now (pairs .exit)) (now (keys .entry)) (now (keys .exit)) r ⌝ }
 {
     let request = Request {
         which: Which::Either,
         mode: Mode::Tolerant,
         max: Max::None,
     };
+    read_header_body(m, start, request, pairs, keys)
+}
+
+// The listing of the header at the front, or of its refusal. 28, and no other refusal: the text is longer than the output.
+pub fn write_listing(m: &[u8], out: &mut [u8]) -> WriteAnswer
+    ensures { λ r. ⌜ Lists (listing (now (m .entry))) (now (out .entry)) (now (out .exit)) r ⌝ }
+{
     let mut pairs = [0u32; 4096];
     let mut keys = [0u32; 4096];
-    let answer = read_header_body(m, 0, request, &mut pairs, &mut keys);
+    let answer = read_as_listed(m, 0, &mut pairs, &mut keys);
     write_answer(m, answer, &pairs, &keys, out)
 }
