@@ -28,7 +28,7 @@ use Rattle.wire.specs.declared.Refusal.{Refusal}
 use Rattle.wire.specs.declared.Span.{Span}
 use Rattle.wire.specs.declared.Span.the-variants as span
 use Rattle.wire.proofs.Answers.{span-got, span-no}
-use Rattle.auth.specs.Codes.{auth-of, no-auth}
+use Rattle.auth.specs.Codes.{read-tag, auth-of, no-auth}
 use Rattle.auth.specs.declared.AuthRead.{AuthRead}
 
 -- arrays
@@ -74,7 +74,26 @@ stands m s k some x is from n t b = by (leb (s + k) (length m)) refl
         let lacks : length m - s < k = omega arith in
         refused-is-none (sym (read-lacks m s k lacks) ∙ span-got (at (read k) m s) x is from n t b .is)
 
--- version 1
+-- the tag, behind an IV
+module _ (iv : List ℕ) (m : List ℕ) (s : ℕ) (t : Span) (tIs : t ≡ span-of (at (read 16) m s)) where
+  pub no-tag-there : (q : Refusal) → t ≡ span.Not q → (a : Refusal) → a ≡ why-span t → (r : AuthRead) → r ≡ no-auth a → r ≡ auth-of (at (read-tag iv) m s)
+  unfolding read-tag
+  no-tag-there q b a f r g =
+      g ∙ ap no-auth (f ∙ ap why-span b) ∙ no-record _ q (stop _ (read-tidy 16) m s _ _ (span-no (at (read 16) m s) t tIs q b))
+
+  module _ (from k tail : ℕ) (tb : t ≡ span.At from k tail) where
+    tags : Stands m s 16 from tail
+    tags = stands m s 16 (omega arith) t tIs from k tail tb
+
+    pub tag-in : from + 16 ≤ length m
+    tag-in = let y = tags in omega arith
+
+    pub tag-whole : (tag : List ℕ) → tag ≡ bytes-at m from 16
+        → _≡_ {A = AuthRead} (record { number = 0; position = 0; tail = tail; iv = iv; tag = tag }) (auth-of (at (read-tag iv) m s))
+    unfolding read-tag
+    tag-whole tag b = rw (b, tags .starts, go _ (read-tidy 16) m s _ tail (tags .is), gives _ m tail)
+
+-- version 1: the IV
 module _ (m : List ℕ) (s : ℕ) (i : Span) (iIs : i ≡ span-of (at (read 12) m s)) where
   pub v1-no-iv : (q : Refusal) → i ≡ span.Not q → (a : Refusal) → a ≡ why-span i → (r : AuthRead) → r ≡ no-auth a → r ≡ auth-of (at (read-header-auth-tag-of true) m s)
   unfolding read-header-auth-tag-of
@@ -85,44 +104,20 @@ module _ (m : List ℕ) (s : ℕ) (i : Span) (iIs : i ≡ span-of (at (read 12) 
     ivs : Stands m s 12 first second
     ivs = stands m s 12 (omega arith) i iIs first n second ib
 
-    pub second-in : second ≤ length m
-    second-in = let y = ivs in omega arith
+    pub second-in : length m < 4294967296 → second < 4294967296
+    second-in h = let y = ivs in omega arith
 
     pub iv-in : first + 12 ≤ length m
     iv-in = let y = ivs in omega arith
 
-    module _ (t : Span) (tIs : t ≡ span-of (at (read 16) m second)) where
-      pub v1-no-tag : (q : Refusal) → t ≡ span.Not q → (a : Refusal) → a ≡ why-span t → (r : AuthRead) → r ≡ no-auth a → r ≡ auth-of (at (read-header-auth-tag-of true) m s)
-      unfolding read-header-auth-tag-of
-      v1-no-tag q b a f r g =
-          g ∙ ap no-auth (f ∙ ap why-span b)
-          ∙ no-record _ q (go _ (read-tidy 12) m s _ second (ivs .is) ∙ stop _ (read-tidy 16) m second _ _ (span-no (at (read 16) m second) t tIs q b))
+    pub v1-whole : (iv : List ℕ) → iv ≡ bytes-at m first 12 → (r : AuthRead) → r ≡ auth-of (at (read-tag iv) m second) → r ≡ auth-of (at (read-header-auth-tag-of true) m s)
+    unfolding read-header-auth-tag-of read-tag
+    v1-whole iv a r f = f ∙ rw (a, ivs .starts, go _ (read-tidy 12) m s _ second (ivs .is)) refl
 
-      module _ (from k tail : ℕ) (tb : t ≡ span.At from k tail) (iv tag : List ℕ) (a : iv ≡ bytes-at m first 12) (b : tag ≡ bytes-at m from 16) where
-        pub v1-whole : _≡_ {A = AuthRead} (record { number = 0; position = 0; tail = tail; iv = iv; tag = tag }) (auth-of (at (read-header-auth-tag-of true) m s))
-        unfolding read-header-auth-tag-of
-        v1-whole =
-            let y = stands m second 16 (omega arith) t tIs from k tail tb in
-            rw (a, b, ivs .starts, y .starts, go _ (read-tidy 12) m s _ second (ivs .is), go _ (read-tidy 16) m second _ tail (y .is), gives _ m tail)
-
--- version 2, and the place of a tag
-module _ (m : List ℕ) (s : ℕ) (t : Span) (tIs : t ≡ span-of (at (read 16) m s)) where
-  pub v2-no-tag : (q : Refusal) → t ≡ span.Not q → (a : Refusal) → a ≡ why-span t → (r : AuthRead) → r ≡ no-auth a → r ≡ auth-of (at (read-header-auth-tag-of false) m s)
-  unfolding read-header-auth-tag-of
-  v2-no-tag q b a f r g =
-      g ∙ ap no-auth (f ∙ ap why-span b) ∙ no-record _ q (stop _ (read-tidy 16) m s _ _ (span-no (at (read 16) m s) t tIs q b))
-
-  module _ (from k tail : ℕ) (tb : t ≡ span.At from k tail) where
-    tags : Stands m s 16 from tail
-    tags = stands m s 16 (omega arith) t tIs from k tail tb
-
-    pub tag-in : from + 16 ≤ length m
-    tag-in = let y = tags in omega arith
-
-    pub v2-whole : (iv tag : List ℕ) → iv ≡ zeros 12 → tag ≡ bytes-at m from 16
-        → _≡_ {A = AuthRead} (record { number = 0; position = 0; tail = tail; iv = iv; tag = tag }) (auth-of (at (read-header-auth-tag-of false) m s))
-    unfolding read-header-auth-tag-of
-    v2-whole iv tag a b = rw (a, b, tags .starts, go _ (read-tidy 16) m s _ tail (tags .is), gives _ m tail)
+-- version 2: none
+pub v2-whole : (m : List ℕ) (s : ℕ) (iv : List ℕ) → iv ≡ zeros 12 → (r : AuthRead) → r ≡ auth-of (at (read-tag iv) m s) → r ≡ auth-of (at (read-header-auth-tag-of false) m s)
+unfolding read-header-auth-tag-of read-tag
+v2-whole m s iv a r f = rw a at f
 
 -- the suite, as it was looked up
 record Version (n : ℕ) (k : Suite) : Type 0 where

@@ -1,9 +1,18 @@
 -- The code's answer, of what a reader answers. Assumes nothing.
 use Prim.Native.Nat.{ℕ}
-use Rattle.format.specs.Read.{Answer, accepted, refused}
+use mathlib.Core.List.{List}
+use Rattle.format.specs.Read.{Reader, _>>=_, return, Answer, accepted, refused}
+use Rattle.format.specs.Serialize.{read}
+use Rattle.format.specs.Shared.{tag-length}
 use Rattle.format.specs.Auth.{HeaderAuth, no-header-auth, header-auth-of}
 use Rattle.wire.specs.declared.Refusal.{Refusal}
 use Rattle.auth.specs.declared.AuthRead.{AuthRead}
+
+-- the tag, behind an IV: what the readers of both versions end with
+unfoldable pub read-tag : List ℕ → Reader HeaderAuth
+read-tag iv = do
+  tag ← read tag-length
+  return (record { headerIv = iv; headerAuthTag = tag .bytes })
 
 -- number and position of a refusal, 0 where there is none; and the tail, 0 where there is none
 abbrev pub number-of : Answer HeaderAuth → ℕ

@@ -13,7 +13,7 @@ ghost use lib.ListN.{length};
 ghost use Rattle.format.specs.Read.{at};
 ghost use Rattle.format.specs.Auth.{zeros, read-header-auth-tag-of};
 ghost use Rattle.format.specs.Lent.{bytes-at};
-ghost use Rattle.auth.specs.Codes.{auth-of, no-auth};
+ghost use Rattle.auth.specs.Codes.{read-tag, auth-of, no-auth};
 
 // GetIvLengthZeros.
 fn no_iv() -> [u8; Suite::IV_LEN]
@@ -61,31 +61,21 @@ pub fn refused(why: Refusal) -> AuthRead
     }
 }
 
-// ReadHeaderAuthTagV1.
-pub fn record_v1(m: &[u8], s: u64) -> AuthRead
+// The tag, behind an IV: what both versions end with.
+fn record_with(m: &[u8], s: u64, iv: [u8; Suite::IV_LEN]) -> AuthRead
     requires { ⌜ (s < 4294967296) × (length (now m) < 4294967296) ⌝ }
-    ensures { λ r. ⌜ r ≡ auth-of (at (read-header-auth-tag-of true) (now (m .entry)) s) ⌝ }
+    ensures { λ r. ⌜ r ≡ auth-of (at (read-tag iv) (now (m .entry)) s) ⌝ }
 {
-    let i = reading::read_some_bytes(m, s, Suite::IV_LEN as u64);
+    let t = reading::read_some_bytes(m, s, Suite::TAG_LEN as u64);
     let Span::At {
-        start: first,
-        len: _,
-        tail: second,
-    } = i
-    else {
-        return refused(i.refusal());
-    };
-    let t = reading::read_bytes(m, second, Suite::TAG_LEN as u64);
-    let Span::At {
-        start: from,
+        start,
         len: _,
         tail,
     } = t
     else {
         return refused(t.refusal());
     };
-    let iv = iv_at(m, first);
-    let tag = tag_at(m, from);
+    let tag = tag_at(m, start);
     AuthRead {
         number: refusals::NONE,
         position: 0,
@@ -95,27 +85,27 @@ pub fn record_v1(m: &[u8], s: u64) -> AuthRead
     }
 }
 
+// ReadHeaderAuthTagV1.
+pub fn record_v1(m: &[u8], s: u64) -> AuthRead
+    requires { ⌜ (s < 4294967296) × (length (now m) < 4294967296) ⌝ }
+    ensures { λ r. ⌜ r ≡ auth-of (at (read-header-auth-tag-of true) (now (m .entry)) s) ⌝ }
+{
+    let i = reading::read_some_bytes(m, s, Suite::IV_LEN as u64);
+    let Span::At {
+        start,
+        len: _,
+        tail,
+    } = i
+    else {
+        return refused(i.refusal());
+    };
+    record_with(m, tail, iv_at(m, start))
+}
+
 // ReadHeaderAuthTagV2: there is no IV, and the one that is read is all 00.
 pub fn record_v2(m: &[u8], s: u64) -> AuthRead
     requires { ⌜ (s < 4294967296) × (length (now m) < 4294967296) ⌝ }
     ensures { λ r. ⌜ r ≡ auth-of (at (read-header-auth-tag-of false) (now (m .entry)) s) ⌝ }
 {
-    let t = reading::read_some_bytes(m, s, Suite::TAG_LEN as u64);
-    let Span::At {
-        start: from,
-        len: _,
-        tail,
-    } = t
-    else {
-        return refused(t.refusal());
-    };
-    let iv = no_iv();
-    let tag = tag_at(m, from);
-    AuthRead {
-        number: refusals::NONE,
-        position: 0,
-        tail,
-        iv,
-        tag,
-    }
+    record_with(m, s, no_iv())
 }

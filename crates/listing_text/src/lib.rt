@@ -159,12 +159,7 @@ fn write_answer(
 }
 
 // Either version, tolerant, no maximum: how a header is read that is listed.
-pub fn read_as_listed(
-    m: &[u8],
-    start: u64,
-    pairs: &mut [u32],
-    keys: &mut [u32],
-) -> HeaderBodyAnswer
+pub fn read_as_listed(m: &[u8], start: u64, pairs: &mut [u32], keys: &mut [u32]) -> HeaderBodyAnswer
     ensures { λ r. ⌜ ReadsBody (operation (read-header-body either tolerant no-max (length (now (pairs .entry))) (length (now (keys .entry)))) (now (m .entry)) start) (now (pairs .entry)) (now (pairs .exit)) (now (keys .entry)) (now (keys .exit)) r ⌝ }
 {
     let request = Request {
