@@ -11,15 +11,15 @@ use Rattle.format.specs.Fields.{Fields, HeaderBody, fields-of}
 use Rattle.format.specs.Context.{Form, tolerant}
 use Rattle.format.specs.Keys.{Max}
 use Rattle.format.specs.Body.{Request, either, request, read-body, read-header-body, image}
-use Rattle.format.specs.Refusals.{Refusal, body-refusals}
+use Rattle.format.specs.First.{FirstApplies, operation-list, FirstRefusal, body-list}
 use Rattle.format.specs.Demand3.{Stands, Gives, Sentence1}
 use Rattle.format.proofs.Tests.{leb-is, is-leb}
 use Rattle.format.proofs.Exact.{Took}
 use Rattle.format.proofs.Body.{Sent, BodyOk, sent-bytes, body-at, body-exact, fields-at}
 use Rattle.format.proofs.Accepts.{Good, good, accepts}
-use Rattle.format.proofs.Messages.{accepted-took, operation-here, operation-long}
+use Rattle.format.proofs.Messages.{accepted-took, operation-here, operation-long, operation-far}
 use Rattle.format.proofs.Held.{body-held}
-use Rattle.format.proofs.Listed.{refusals}
+use Rattle.format.proofs.FirstBody.{first-refusals}
 
 module _ (max : Max) (pairRoom keyRoom : ℕ) (m : List ℕ) (s : ℕ) where
   abbrev q : Request
@@ -76,14 +76,17 @@ module _ (max : Max) (pairRoom keyRoom : ℕ) (m : List ℕ) (s : ℕ) where
         record { fields = fields-at s x; placed = body-held m q s x ok (record { after = h .after; is = h .bytes }) },
       )
 
-  otherwise : Bytes m → ((form : Form) (f : Fields) → Stands max pairRoom keyRoom m s form f → ⊥)
-      → (k : ℕ) × (p : ℕ) × (said ≡ refused k p) × Refusal (body-refusals q) m k p
+  listed : FirstRefusal (read-header-body either tolerant max pairRoom keyRoom) (body-list q) m s
   unfolding read-header-body
+  listed = first-refusals .of-body q m s
+
+  otherwise : Bytes m → ((form : Form) (f : Fields) → Stands max pairRoom keyRoom m s form f → ⊥)
+      → (k : ℕ) × (p : ℕ) × (said ≡ refused k p) × FirstApplies (operation-list (body-list q) m s) k p
   otherwise hb none = go said refl
     where
-      go : (a : Answer HeaderBody) → said ≡ a → (k : ℕ) × (p : ℕ) × (said ≡ refused k p) × Refusal (body-refusals q) m k p
+      go : (a : Answer HeaderBody) → said ≡ a → (k : ℕ) × (p : ℕ) × (said ≡ refused k p) × FirstApplies (operation-list (body-list q) m s) k p
       go (accepted b t) e = let z = only hb b t e in absurd (none (z .0) (z .1) (z .2))
-      go (refused k p) e = (k, p, e, refusals .of-body q m s k p e)
+      go (refused k p) e = (k, p, e, listed .refuses k p e)
 
   pub sentence-1 : Bytes m → Sentence1 max pairRoom keyRoom m s
   sentence-1 hb =
@@ -91,5 +94,7 @@ module _ (max : Max) (pairRoom keyRoom : ℕ) (m : List ℕ) (s : ℕ) where
         only = λ fits b t e. only hb b t e;
         all = all;
         otherwise = λ fits none. otherwise hb none;
+        listed = listed;
         longer = λ h. operation-long (read-header-body either tolerant max pairRoom keyRoom) m s h;
+        farther = λ h. operation-far (read-header-body either tolerant max pairRoom keyRoom) m s h;
       }

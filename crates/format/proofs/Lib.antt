@@ -8,6 +8,9 @@ pub mod Body
 pub mod Firsts
 pub mod Accepts
 pub mod Messages
+pub mod Lines
+pub mod First
+pub mod FirstBody
 pub mod Writers
 pub mod Listed
 pub mod Wanted

@@ -1,6 +1,6 @@
 -- A message read at a start: what refusal 1 leaves, and what was read of it. Assumes nothing.
 use mathlib.Core.Path.{_≡_, refl, sym, ap, _∙_}
-use mathlib.Core.Bool.{Bool, true, false}
+use mathlib.Core.Bool.{Bool, true, false, _&&_}
 use mathlib.Core.List.{List, [], _∷_, _++_}
 use Prim.Native.Nat.{ℕ, zero, suc, _+_, _≤_, _<_}
 use native.Mathlib.Omega.{arith}
@@ -22,9 +22,13 @@ module _ {A : Type 0} (r : Reader A) (m : List ℕ) (s : ℕ) where
   unfolding operation
   operation-long h = rw (nleb-is (length m) 4294967295 h, operation)
 
-  pub operation-far : length m ≤ 4294967295 → 4294967295 < s → operation r m s ≡ refused 1 0
+  pub operation-far : 4294967295 < s → operation r m s ≡ refused 1 0
   unfolding operation
-  operation-far h k = rw (leb-is (length m) 4294967295 h, nleb-is s 4294967295 k, operation)
+  operation-far k = by (leb (length m) 4294967295)
+    where
+      by : (b : Bool) → _≡_ {A = Answer A} (elim (b && leb s 4294967295) as (λ x. Answer A) [ true ↦ at r m s | false ↦ refused 1 0 ]) (refused 1 0)
+      by true = rw (nleb-is s 4294967295 k) refl
+      by false = refl
 
   pub operation-here : length m ≤ 4294967295 → s ≤ 4294967295 → operation r m s ≡ answer (r (drop s m) s)
   unfolding operation at
@@ -36,7 +40,7 @@ module _ {A : Type 0} (r : Reader A) (m : List ℕ) (s : ℕ) where
     where
       by : (b : Bool) → leb (length m) 4294967295 ≡ b → (c : Bool) → leb s 4294967295 ≡ c → C
       by true p true q = g (is-leb _ _ p) (is-leb _ _ q) (operation-here (is-leb _ _ p) (is-leb _ _ q))
-      by true p false q = f (operation-far (is-leb _ _ p) (is-nleb _ _ q))
+      by true p false q = f (operation-far (is-nleb _ _ q))
       by false p c q = f (operation-long (is-nleb _ _ p))
 
 module _ {A : Type 0} where

@@ -97,7 +97,7 @@ module _ {A : Type 0} (r q : Reader A) (x : ℕ) (h : (l : List ℕ) (s : ℕ) �
       go false e =
           let z : 4294967295 < s = is-nleb _ _ e in
           let w : length m ≤ s = omega arith in
-          rw (operation-far r m s fits z, operation-far q m s fits z, drop-of-length-le m w, none-in-front x) refl
+          rw (operation-far r m s z, operation-far q m s z, drop-of-length-le m w, none-in-front x) refl
 
 pub sentence-3 : (mode : Mode) (max : Max) (pairRoom keyRoom : ℕ) (m : List ℕ) (s : ℕ) → length m ≤ 4294967295 → Sentence3 mode max pairRoom keyRoom m s
 unfolding read-header-body read-header-body-untested

@@ -1,6 +1,6 @@
 -- Sentence 4: the two images, and what the body writer leaves. Assumes nothing.
 use mathlib.Core.Path.{_≡_, refl, sym, ap, _∙_}
-use mathlib.Core.Bool.{Bool, true, false}
+use mathlib.Core.Bool.{Bool, true, false, cond}
 use mathlib.Core.Option.{Option, none, some}
 use mathlib.Core.List.{List, [], _∷_, _++_, append-assoc, append-nil}
 use Prim.Native.Nat.{ℕ, _+_, _*_, _≤_, _<_}
@@ -19,7 +19,7 @@ use Rattle.format.specs.Lent.{filled, table-checks, Writing, refusal-of,
 use Rattle.format.specs.Demand3.{Gives, Images, Sentence4}
 use Rattle.format.proofs.Tests.{leb-is, is-leb}
 use Rattle.format.proofs.Firsts.{Holds, holds, unheld, split, join}
-use Rattle.format.proofs.Serialize.{length-uint16}
+use Rattle.format.proofs.Accepts.{good}
 use Rattle.format.proofs.Either.{all}
 use Rattle.format.proofs.Writers.{writer-law}
 
@@ -28,29 +28,37 @@ unfolding write-aad-section
 same-section [] h = absurd (h refl)
 same-section (p ∷ ps) h = refl
 
-two-more : length (section-in old []) ≡ length (section-in today []) + 2
-unfolding write-aad-section write-expanded-aad-section write-aad write-aad-pairs images sum write-uint16
-two-more = refl
+empty-today : section-in today [] ≡ 0x00 ∷ 0x00 ∷ []
+unfolding write-aad-section write-uint16
+empty-today = refl
 
-in-the-middle : (a x y b : List ℕ) → length x ≡ length y + 2 → length (a ++ (x ++ b)) ≡ length (a ++ (y ++ b)) + 2
-in-the-middle a x y b e =
-    let p = length-append a (x ++ b) in
-    let q = length-append x b in
-    let r = length-append a (y ++ b) in
-    let t = length-append y b in
-    omega arith
+empty-old : section-in old [] ≡ 0x00 ∷ 0x02 ∷ 0x00 ∷ 0x00 ∷ []
+unfolding write-expanded-aad-section write-aad write-aad-pairs images sum write-uint16
+empty-old = refl
 
-longer : (f : Fields) → f .pairs ≡ [] → length (image old f) ≡ length (image today f) + 2
-unfolding image
-longer f e =
-    let v1 = eqb (f .version) 1 in
-    in-the-middle ((f .version ∷ []) ++ write-opening-of v1 (f .messageType) (f .suite) (f .messageId)) (section-in old (f .pairs)) (section-in today (f .pairs))
-    (write-encrypted-data-keys-section (f .keys) ++ ((f .contentType ∷ []) ++ write-closing-of v1 (f .headerIvLength) (f .frameLength) (f .suiteData)))
-    (rw e two-more)
+-- what stands before the context section, and behind it
+abbrev front : Fields → List ℕ
+front f = (f .version ∷ []) ++ write-opening-of (eqb (f .version) 1) (f .messageType) (f .suite) (f .messageId)
+
+abbrev back : Fields → List ℕ
+back f = write-encrypted-data-keys-section (f .keys) ++ ((f .contentType ∷ []) ++ write-closing-of (eqb (f .version) 1) (f .headerIvLength) (f .frameLength) (f .suiteData))
+
+front-long : (v1 : Bool) (version messageType suite : ℕ) (id : List ℕ) → length id ≡ cond v1 16 32 → length ((version ∷ []) ++ write-opening-of v1 messageType suite id) ≡ cond v1 20 35
+unfolding write-opening-of write-uint16
+front-long true version messageType suite id e = omega arith
+front-long false version messageType suite id e = omega arith
 
 same-images : (f : Fields) → Images f
 unfolding image
-same-images f = record { alike = λ h. rw (same-section (f .pairs) h) refl; two-longer = longer f }
+same-images f =
+    record {
+      alike = λ h. rw (same-section (f .pairs) h) refl;
+      front = front f;
+      back = back f;
+      today-has = λ e. rw (e, empty-today) refl;
+      old-has = λ e. rw (e, empty-old) refl;
+      front-long = λ a. front-long (eqb (f .version) 1) (f .version) (f .messageType) (f .suite) (f .messageId) (good f a .top .rest .sized);
+    }
 
 -- checks in front of the pairs' and of the keys', and those without them
 module _ (o p ps k ks c : List Check) where

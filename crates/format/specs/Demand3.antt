@@ -13,7 +13,7 @@ use Rattle.format.specs.Context.{Form, today, old, Mode, tolerant, stric
 use Rattle.format.specs.Keys.{Max, within}
 use Rattle.format.specs.Body.{Which, either, v1-only, v2-only, Opening, read-opening, request, read-header-body, read-header-body-untested, image}
 use Rattle.format.specs.Checks.{Accepts, first}
-use Rattle.format.specs.Refusals.{Refusal, body-refusals}
+use Rattle.format.specs.First.{FirstApplies, operation-list, FirstRefusal, body-list}
 use Rattle.format.specs.Lent.{bytes-at, filled, table-checks, BodyToWrite, fields-to-write, writing-header-body, written, output-after, pair-table-after, key-table-after}
 
 -- WHAT THE SENTENCES SPEAK OF
@@ -64,15 +64,18 @@ stands-at x m s = same-bytes (bytes-at m s 1) (x ∷ [])
 
 -- SENTENCE 1. A message of at most 4,294,967,295 bytes: the tolerant either-version reader accepts if and only if an image stands
 -- there (`only` and `all`); it then gives those same fields and, as its tail, the end of those bytes. Otherwise, and on any longer
--- message, it answers the first refusal that applies: read-body makes the tests in their order, and the first that fails leaves.
+-- message or from a start as far, it answers the first refusal listed that applies, with its position: specs/First has the list.
 pub record Sentence1 (max : Max) (pairRoom keyRoom : ℕ) (m : List ℕ) (s : ℕ) : Type 0 where
   pub only : length m ≤ 4294967295 → (b : HeaderBody) (t : ℕ) → operation (read-header-body either tolerant max pairRoom keyRoom) m s ≡ accepted b t
       → (form : Form) × (f : Fields) × Stands max pairRoom keyRoom m s form f × Gives m b f × (t ≡ s + length (image form f))
   pub all : length m ≤ 4294967295 → (form : Form) (f : Fields) → Stands max pairRoom keyRoom m s form f
       → (b : HeaderBody) × (operation (read-header-body either tolerant max pairRoom keyRoom) m s ≡ accepted b (s + length (image form f))) × Gives m b f
   pub otherwise : length m ≤ 4294967295 → ((form : Form) (f : Fields) → Stands max pairRoom keyRoom m s form f → ⊥)
-      → (k : ℕ) × (p : ℕ) × (operation (read-header-body either tolerant max pairRoom keyRoom) m s ≡ refused k p) × Refusal (body-refusals (request either tolerant true max pairRoom keyRoom)) m k p
+      → (k : ℕ) × (p : ℕ) × (operation (read-header-body either tolerant max pairRoom keyRoom) m s ≡ refused k p)
+      × FirstApplies (operation-list (body-list (request either tolerant true max pairRoom keyRoom)) m s) k p
+  pub listed : FirstRefusal (read-header-body either tolerant max pairRoom keyRoom) (body-list (request either tolerant true max pairRoom keyRoom)) m s
   pub longer : 4294967295 < length m → operation (read-header-body either tolerant max pairRoom keyRoom) m s ≡ refused 1 0
+  pub farther : 4294967295 < s → operation (read-header-body either tolerant max pairRoom keyRoom) m s ≡ refused 1 0
 
 -- SENTENCE 2. On every message, with the same start, tables and maximum, the strict reader answers as the tolerant one, alike in
 -- number, position, fields with their places, tail and tables afterwards, except that it refuses 21 where the context section it
@@ -96,11 +99,16 @@ pub record Sentence3 (mode : Mode) (max : Max) (pairRoom keyRoom : ℕ) (m : Lis
   pub version-2 : operation (read-header-body v2-only mode max pairRoom keyRoom) m s
       ≡ cond (stands-at 1 m s) (refused 4 0) (operation (read-header-body-untested mode max pairRoom keyRoom) m s)
 
--- SENTENCE 4. The two images differ only for an empty context; where no refusal applies the writer's output is today's image and
--- its length; reading it back follows from sentence 1.
+-- SENTENCE 4. Today's writer writes an empty context as 00 00 and the old one wrote 00 02 00 00; otherwise the two write the same
+-- bytes. Where no refusal applies the writer's output is today's image and its length; reading it back follows from sentence 1.
 pub record Images (f : Fields) : Type 0 where
   pub alike : (f .pairs ≡ [] → ⊥) → image old f ≡ image today f
-  pub two-longer : f .pairs ≡ [] → length (image old f) ≡ length (image today f) + 2
+  pub front : List ℕ
+  pub back : List ℕ
+  pub today-has : f .pairs ≡ [] → image today f ≡ front ++ (0x00 ∷ 0x00 ∷ back)
+  pub old-has : f .pairs ≡ [] → image old f ≡ front ++ (0x00 ∷ 0x02 ∷ 0x00 ∷ 0x00 ∷ back)
+  -- the front is what stands before the context section
+  pub front-long : Accepts f → length front ≡ by (f .version) 20 35
 
 pub record Sentence4 (w : BodyToWrite) (out : List ℕ) : Type 0 where
   pub images : Images (fields-to-write w)

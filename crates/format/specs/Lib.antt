@@ -9,6 +9,8 @@ pub mod Body
 pub mod Auth
 pub mod Checks
 pub mod Lent
+pub mod Places
+pub mod First
 pub mod Refusals
 pub mod Demand3
 pub mod Sections

@@ -1,0 +1,125 @@
+-- Each reading operation goes by its list in specs/First. Assumes nothing.
+use mathlib.Core.Path.{_≡_, refl, sym, ap, _∙_}
+use mathlib.Core.Bool.{Bool, true, false, not, cond, _&&_, _||_}
+use mathlib.Core.Option.{Option, none, some}
+use mathlib.Core.List.{List, [], _∷_, _++_, map}
+use Prim.Native.Nat.{ℕ, suc, _+_, _-_, _≤_, _<_}
+use native.Mathlib.Omega.{arith}
+use lib.Dec.{leb, ltb, eqb}
+use lib.ListN.{length, drop}
+use lib.Seq.{drop-cons}
+use Rattle.format.specs.Read.{Reader, _>>=_, _>>_, return, test, Answer, accepted, refused, answer, at, addressable, operation}
+use Rattle.format.specs.Serialize.{Part, read, read-uint, read-uint8, read-uint16, read-uint32, read-short-length-seq}
+use Rattle.format.specs.Utf8.{valid-utf8-seq}
+use Rattle.format.specs.Shared.{by, read-message-format-version, read-esdk-suite-id, read-content-type, suite-version}
+use Rattle.format.specs.Fields.{PairAt, pair-of}
+use Rattle.format.specs.Context.{Mode, is-strict, seen, read-text, read-aad-pair, read-next-aad-pair, read-aad, read-aad-of, read-aad-section, read-aad-section-into}
+use Rattle.format.specs.Keys.{Max, read-encrypted-data-key, read-encrypted-data-keys-section, read-encrypted-data-keys-section-into}
+use Rattle.format.specs.Places.{number-here, number8, number16, number32, part-of, entry-here, entry-end, pair-here, pair-end, pairs-here, pairs-end, key-here, key-end, section-pairs, section-keys, section-keys-end}
+use Rattle.format.specs.First.{Line, lacks, when, unless, entry-list, each-list, pair-list, context-list-of, context-list, key-list, keys-list, context-into-list, keys-into-list}
+use Rattle.format.proofs.Tests.{is-leb, is-nleb, is-eqb}
+use Rattle.format.proofs.Lines.{first-line, one-none, join-none, Goes, goes-as, return-goes, bind-goes, test-goes, not-goes, read-goes, repeat-goes, framed-goes}
+
+-- the numbers of 1, 2 and 4 bytes, byte by byte
+module _ (m : List ℕ) (s : ℕ) where
+  pub is-number8 : s + 1 ≤ length m → number-here 1 m s ≡ number8 m s
+  is-number8 h = rw (drop-cons m s 0 (omega arith)) (omega arith)
+
+  pub is-number16 : s + 2 ≤ length m → number-here 2 m s ≡ number16 m s
+  is-number16 h =
+      let e : s + 1 ≡ suc s = omega arith in
+      rw (e, drop-cons m s 0 (omega arith), drop-cons m (suc s) 0 (omega arith)) (omega arith)
+
+  pub is-number32 : s + 4 ≤ length m → number-here 4 m s ≡ number32 m s
+  is-number32 h =
+      let p : s + 1 ≡ suc s = omega arith in
+      let q : s + 2 ≡ suc (suc s) = omega arith in
+      let r : suc (suc s) + 1 ≡ suc (suc (suc s)) = omega arith in
+      rw (q, p, r, drop-cons m s 0 (omega arith), drop-cons m (suc s) 0 (omega arith), drop-cons m (suc (suc s)) 0 (omega arith), drop-cons m (suc (suc (suc s))) 0 (omega arith))
+      (omega arith)
+
+uint-goes : (width : ℕ) → Goes (read-uint width) (λ m s. lacks width m s ∷ []) (λ m s. number-here width m s) (λ m s. s + width)
+unfolding read-uint
+uint-goes width = bind-goes (read-goes width) (λ p. return-goes _)
+
+-- the bytes are there where no shortage applies
+there : (n : ℕ) (m : List ℕ) (s : ℕ) → 0 < n → first-line (lacks n m s ∷ []) ≡ none → s + n ≤ length m
+there n m s h₀ e = let h : n < suc (length m - s) = is-nleb (suc (length m - s)) n (one-none (lacks n m s) [] e .0) in omega arith
+
+pub uint8-goes : Goes read-uint8 (λ m s. lacks 1 m s ∷ []) number8 (λ m s. s + 1)
+unfolding read-uint8
+uint8-goes = goes-as (uint-goes 1) (λ m s. refl) (λ m s e. (is-number8 m s (there 1 m s (omega arith) e), refl))
+
+pub uint16-goes : Goes read-uint16 (λ m s. lacks 2 m s ∷ []) number16 (λ m s. s + 2)
+unfolding read-uint16
+uint16-goes = goes-as (uint-goes 2) (λ m s. refl) (λ m s e. (is-number16 m s (there 2 m s (omega arith) e), refl))
+
+pub uint32-goes : Goes read-uint32 (λ m s. lacks 4 m s ∷ []) number32 (λ m s. s + 4)
+unfolding read-uint32
+uint32-goes = goes-as (uint-goes 4) (λ m s. refl) (λ m s e. (is-number32 m s (there 4 m s (omega arith) e), refl))
+
+entry-goes : Goes read-short-length-seq entry-list entry-here entry-end
+unfolding read-short-length-seq entry-list
+entry-goes = bind-goes uint16-goes read-goes
+
+text-goes : (k : ℕ) → Goes (read-text k) (λ m s. entry-list m s ++ (unless k (valid-utf8-seq (entry-here m s .bytes)) ∷ [])) entry-here entry-end
+unfolding read-text
+text-goes k = bind-goes entry-goes (λ e. test-goes k _ (return-goes e))
+
+-- the context section
+two-goes : Goes read-aad-pair
+    (λ m s. (entry-list m s ++ (unless 10 (valid-utf8-seq (entry-here m s .bytes)) ∷ []))
+    ++ ((entry-list m (entry-end m s) ++ (unless 11 (valid-utf8-seq (entry-here m (entry-end m s) .bytes)) ∷ [])) ++ []))
+    pair-here pair-end
+unfolding read-aad-pair
+two-goes = bind-goes (text-goes 10) (λ k. bind-goes (text-goes 11) (λ v. return-goes _))
+
+pair-goes : (acc : List PairAt) → Goes (read-next-aad-pair acc) (pair-list acc) pair-here pair-end
+unfolding read-next-aad-pair pair-list entry-list
+pair-goes acc = bind-goes two-goes (λ p. not-goes 12 (seen (p .key .bytes) (map pair-of acc)) (test-goes 13 _ (return-goes p)))
+
+-- 8, 21 and 9 in document 01's words: the definition tests 21 once 8 has passed
+in-words : (two zero strictly : Bool) (x y : Line) (rest : List Line)
+    → first-line (x ∷ y ∷ when 8 (two && not zero) ∷ when 21 (two && (zero && strictly)) ∷ when 9 (not two && zero) ∷ rest)
+    ≡ first-line (x ∷ y ∷ unless 8 (not two || zero) ∷ unless 21 (not (two && strictly)) ∷ unless 9 (two || not zero) ∷ rest)
+unfolding first-line
+in-words true true true x y rest = refl
+in-words true true false x y rest = refl
+in-words true false strictly x y rest = refl
+in-words false true strictly x y rest = refl
+in-words false false strictly x y rest = refl
+
+-- where the pairs end is where the section's length says
+context-of-goes : (mode : Mode) (b : Bool) (n : ℕ) → Goes (read-aad-of mode b n) (context-list-of mode b n)
+    (λ m s. cond b [] (pairs-here m (number16 m s) (s + 2))) (λ m s. cond b s (s + n))
+unfolding read-aad-of read-aad context-list-of
+context-of-goes mode true n = return-goes []
+context-of-goes mode false n =
+    goes-as (framed-goes n 14 (bind-goes uint16-goes (λ count. test-goes 8 _ (test-goes 21 _ (test-goes 9 _ (repeat-goes pair-goes count []))))))
+    (λ m s. in-words (eqb n 2) (eqb (number16 m s) 0) (is-strict mode) _ _ _)
+    (λ m s e. (refl, refl))
+
+pub context-goes : (mode : Mode) → Goes (read-aad-section mode) (context-list mode) section-pairs entry-end
+unfolding read-aad-section context-list
+context-goes mode = goes-as (bind-goes uint16-goes (λ n. context-of-goes mode (eqb n 0) n)) (λ m s. refl) (λ m s e. (refl, ends (number16 m s) (s + 2) (eqb (number16 m s) 0) refl))
+  where
+    ends : (n s : ℕ) (b : Bool) → eqb n 0 ≡ b → cond b s (s + n) ≡ s + n
+    ends n s true e = let z = is-eqb n 0 e in omega arith
+    ends n s false e = refl
+
+pub context-into-goes : (mode : Mode) (room : ℕ) → Goes (read-aad-section-into mode room) (context-into-list mode room) section-pairs entry-end
+unfolding read-aad-section-into context-into-list
+context-into-goes mode room = bind-goes (context-goes mode) (λ ps. test-goes 22 _ (return-goes ps))
+
+-- the key section
+key-goes : Goes read-encrypted-data-key key-list key-here key-end
+unfolding read-encrypted-data-key key-list entry-list
+key-goes = bind-goes (text-goes 16) (λ p. bind-goes entry-goes (λ i. bind-goes entry-goes (λ c. return-goes _)))
+
+pub keys-goes : (max : Max) → Goes (read-encrypted-data-keys-section max) (keys-list max) section-keys section-keys-end
+unfolding read-encrypted-data-keys-section keys-list
+keys-goes max = bind-goes uint16-goes (λ count. test-goes 15 _ (repeat-goes (λ acc. key-goes) count []))
+
+pub keys-into-goes : (max : Max) (room : ℕ) → Goes (read-encrypted-data-keys-section-into max room) (keys-into-list max room) section-keys section-keys-end
+unfolding read-encrypted-data-keys-section-into keys-into-list
+keys-into-goes max room = bind-goes (keys-goes max) (λ ks. test-goes 23 _ (return-goes ks))

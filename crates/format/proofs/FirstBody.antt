@@ -1,0 +1,190 @@
+-- A body, find and an authentication record go by their lists; and an operation refuses by the first line that applies.
+-- Assumes nothing.
+use mathlib.Core.Path.{_≡_, refl, sym, ap, _∙_}
+use mathlib.Core.Bool.{Bool, true, false, not, cond, _||_}
+use mathlib.Core.Option.{Option, none, some}
+use mathlib.Core.List.{List, [], _∷_, _++_, map}
+use Prim.Native.Nat.{ℕ, _+_, _*_, _≤_}
+use native.Mathlib.Omega.{arith}
+use lib.Dec.{leb, eqb}
+use lib.ListN.{length, drop}
+use Rattle.format.specs.Read.{ReadResult, success, error, Reader, _>>=_, _>>_, return, test, Answer, accepted, refused, answer, at, addressable, operation}
+use Rattle.format.specs.Serialize.{Part, read, same-bytes}
+use Rattle.format.specs.Shared.{by, one-or-two, known, of-version, read-message-format-version, read-esdk-suite-id, read-content-type, suite-version, frame-fits}
+use Rattle.format.specs.Fields.{PairAt, EncryptedDataKeyAt, HeaderBody, pair-of}
+use Rattle.format.specs.Context.{Mode, tolerant, seen, look-up, find-value}
+use Rattle.format.specs.Body.{Which, Opening, read-opening-of, read-opening, Closing, read-closing-of, read-closing, whole, Request, after-context, after-opening, read-body}
+use Rattle.format.specs.Auth.{HeaderAuth, zeros, read-header-auth-tag-of, read-header-auth-tag}
+use Rattle.format.specs.Places.{number8, number16, number32, part-of, entry-end, section-pairs, section-keys, section-keys-end}
+use Rattle.format.specs.First.{Line, lacks, when, unless, NoneApplies, FirstApplies, operation-list, opening-list-of, opening-list, closing-list-of, closing-list, frame-here, body-list, auth-list, find-list, FirstRefusal, FirstRefusals}
+use Rattle.format.proofs.Lines.{first-line, none-applies, applies-none, first-applies, applies-first, Goes, goes-as, return-goes, bind-goes, test-goes, read-goes}
+use Rattle.format.proofs.Messages.{refused-is-no-accepted}
+use Rattle.format.proofs.First.{uint8-goes, uint16-goes, uint32-goes, context-goes, context-into-goes, keys-goes, keys-into-goes}
+
+-- what stands before the context section, behind the version byte; true: version 1
+unfoldable opening-here : Bool → List ℕ → ℕ → Opening
+opening-here true m s = record { version = 1; messageType = number8 m s; suite = number16 m (s + 1); messageId = part-of m (s + 1 + 2) 16 }
+opening-here false m s = record { version = 2; messageType = 0; suite = number16 m s; messageId = part-of m (s + 2) 32 }
+
+unfoldable opening-end : Bool → ℕ → ℕ
+opening-end true s = s + 1 + 2 + 16
+opening-end false s = s + 2 + 32
+
+suite-goes : (version : ℕ) → Goes (read-esdk-suite-id version) (λ m s. lacks 2 m s ∷ unless 6 (known (number16 m s)) ∷ unless 7 (of-version version (number16 m s)) ∷ []) number16 (λ m s. s + 2)
+unfolding read-esdk-suite-id
+suite-goes version = bind-goes uint16-goes (λ x. test-goes 6 _ (test-goes 7 _ (return-goes x)))
+
+opening-of-goes : (b : Bool) → Goes (read-opening-of b) (opening-list-of b) (opening-here b) (λ m s. opening-end b s)
+unfolding read-opening-of opening-list-of opening-here opening-end
+opening-of-goes true = bind-goes uint8-goes (λ t. test-goes 5 _ (bind-goes (suite-goes 1) (λ x. bind-goes (read-goes 16) (λ id. return-goes _))))
+opening-of-goes false = bind-goes (suite-goes 2) (λ x. bind-goes (read-goes 32) (λ id. return-goes _))
+
+version-goes : Goes read-message-format-version (λ m s. lacks 1 m s ∷ unless 3 (one-or-two (number8 m s)) ∷ []) number8 (λ m s. s + 1)
+unfolding read-message-format-version
+version-goes = bind-goes uint8-goes (λ v. test-goes 3 _ (return-goes v))
+
+opening-goes : (which : Which) → Goes (read-opening which) (opening-list which) (λ m s. opening-here (eqb (number8 m s) 1) m (s + 1)) (λ m s. s + by (number8 m s) 20 35)
+unfolding read-opening opening-list opening-end
+opening-goes which = goes-as (bind-goes version-goes (λ v. test-goes 4 _ (opening-of-goes (eqb v 1)))) (λ m s. refl) (λ m s e. (refl, ends (eqb (number8 m s) 1) s))
+  where
+    ends : (b : Bool) (s : ℕ) → opening-end b (s + 1) ≡ s + cond b 20 35
+    ends true s = omega arith
+    ends false s = omega arith
+
+-- what stands behind the key section; true: version 1
+unfoldable closing-here : Bool → List ℕ → ℕ → Closing
+closing-here true m s =
+    record { contentType = number8 m s; headerIvLength = number8 m (s + 1 + 4); frameLength = number32 m (s + 1 + 4 + 1); suiteData = record { start = 0; bytes = [] } }
+closing-here false m s = record { contentType = number8 m s; headerIvLength = 0; frameLength = number32 m (s + 1); suiteData = part-of m (s + 1 + 4) 32 }
+
+unfoldable closing-end : Bool → ℕ → ℕ
+closing-end true s = s + 1 + 4 + 1 + 4
+closing-end false s = s + 1 + 4 + 32
+
+content-goes : Goes read-content-type (λ m s. lacks 1 m s ∷ unless 17 (one-or-two (number8 m s)) ∷ []) number8 (λ m s. s + 1)
+unfolding read-content-type
+content-goes = bind-goes uint8-goes (λ v. test-goes 17 _ (return-goes v))
+
+closing-goes : (b : Bool) → Goes (read-closing b) (closing-list b) (closing-here b) (λ m s. closing-end b s)
+unfolding read-closing read-closing-of closing-list closing-list-of closing-here closing-end
+closing-goes true =
+    bind-goes content-goes (λ c. bind-goes uint32-goes (λ r. test-goes 18 _ (bind-goes uint8-goes (λ i. test-goes 19 _ (bind-goes uint32-goes (λ f. return-goes _))))))
+closing-goes false = bind-goes content-goes (λ c. bind-goes uint32-goes (λ f. bind-goes (read-goes 32) (λ x. return-goes _)))
+
+-- a body: what its closing is like goes by the version that was read
+is-v1 : (b : Bool) (m : List ℕ) (s : ℕ) → eqb (opening-here b m s .version) 1 ≡ b
+unfolding opening-here
+is-v1 true m s = refl
+is-v1 false m s = refl
+
+frame-is : (b : Bool) (m : List ℕ) (s : ℕ) → closing-here b m s .frameLength ≡ frame-here b m s
+unfolding closing-here
+frame-is true m s = refl
+frame-is false m s = refl
+
+content-is : (b : Bool) (m : List ℕ) (s : ℕ) → closing-here b m s .contentType ≡ number8 m s
+unfolding closing-here
+content-is true m s = refl
+content-is false m s = refl
+
+module _ (q : Request) where
+  -- what a body gives
+  abbrev body-here : List ℕ → ℕ → HeaderBody
+  body-here m s =
+      let v1 = eqb (number8 m s) 1 in
+      let aad = s + by (number8 m s) 20 35 in
+      let edks = entry-end m aad in
+      whole (opening-here v1 m (s + 1)) (section-pairs m aad) (section-keys m edks) (closing-here v1 m (section-keys-end m edks))
+
+  abbrev body-end : List ℕ → ℕ → ℕ
+  body-end m s = closing-end (eqb (number8 m s) 1) (section-keys-end m (entry-end m (s + by (number8 m s) 20 35)))
+
+  body-goes : Goes (read-body q) (body-list q) body-here body-end
+  unfolding read-body after-opening after-context body-list
+  body-goes =
+      goes-as
+      (bind-goes (opening-goes (q .which)) (λ o. bind-goes (context-goes (q .mode)) (λ ps. bind-goes (keys-goes (q .max)) (λ ks. bind-goes (closing-goes (eqb (o .version) 1)) (λ c.
+      test-goes 20 _ (test-goes 22 _ (test-goes 23 _ (return-goes (whole o ps ks c)))))))))
+      (λ m s. rw (is-v1 (eqb (number8 m s) 1) m (s + 1), content-is, frame-is) refl)
+      (λ m s e. (rw (is-v1 (eqb (number8 m s) 1) m (s + 1)) refl, rw (is-v1 (eqb (number8 m s) 1) m (s + 1)) refl))
+
+-- find: the key has to be seen among the pairs
+value-of : List ℕ → List PairAt → Part
+value-of k [] = record { start = 0; bytes = [] }
+value-of k (p ∷ ps) = cond (same-bytes k (p .key .bytes)) (p .value) (value-of k ps)
+
+look-goes : (k : List ℕ) (ps : List PairAt) → Goes (look-up k ps) (λ m s. unless 29 (seen k (map pair-of ps)) ∷ []) (λ m s. value-of k ps) (λ m s. s)
+unfolding look-up seen value-of test _>>_ return
+look-goes k [] = test-goes 29 false (return-goes (record { start = 0; bytes = [] }))
+look-goes k (p ∷ ps) = here (same-bytes k (p .key .bytes)) (look-goes k ps)
+  where
+    here : (b : Bool) → Goes (look-up k ps) (λ m s. unless 29 (seen k (map pair-of ps)) ∷ []) (λ m s. value-of k ps) (λ m s. s)
+        → Goes (λ l s. elim b as (λ x. ReadResult Part) [ true ↦ success (p .value) l s | false ↦ look-up k ps l s ]) (λ m s. unless 29 (b || seen k (map pair-of ps)) ∷ []) (λ m s. cond b (p .value) (value-of k ps)) (λ m s. s)
+    here true h = test-goes 29 true (return-goes (p .value))
+    here false h = h
+
+find-goes : (k : List ℕ) → Goes (find-value k) (find-list k) (λ m s. value-of k (section-pairs m s)) entry-end
+unfolding find-value find-list
+find-goes k = bind-goes (context-goes tolerant) (look-goes k)
+
+-- an authentication record; true: version 1
+auth-here : Bool → List ℕ → ℕ → HeaderAuth
+auth-here true m s = record { headerIv = part-of m s 12 .bytes; headerAuthTag = part-of m (s + 12) 16 .bytes }
+auth-here false m s = record { headerIv = zeros 12; headerAuthTag = part-of m s 16 .bytes }
+
+auth-of-goes : (b : Bool) → Goes (read-header-auth-tag-of b) (λ m s. cond b (lacks 12 m s ∷ lacks 16 m (s + 12) ∷ []) (lacks 16 m s ∷ [])) (auth-here b) (λ m s. cond b (s + 12 + 16) (s + 16))
+unfolding read-header-auth-tag-of auth-here
+auth-of-goes true = bind-goes (read-goes 12) (λ iv. bind-goes (read-goes 16) (λ tag. return-goes _))
+auth-of-goes false = bind-goes (read-goes 16) (λ tag. return-goes _)
+
+auth-goes : (suite : ℕ) → Goes (read-header-auth-tag suite) (auth-list suite) (auth-here (eqb (suite-version suite) 1)) (λ m s. cond (eqb (suite-version suite) 1) (s + 12 + 16) (s + 16))
+unfolding read-header-auth-tag auth-list
+auth-goes suite = test-goes 6 _ (auth-of-goes (eqb (suite-version suite) 1))
+
+-- an operation: 1, and then its list
+module _ {A : Type 0} {r : Reader A} {list : List ℕ → ℕ → List Line} {value : List ℕ → ℕ → A} {end : List ℕ → ℕ → ℕ} (h : Goes r list value end) (m : List ℕ) (s : ℕ) where
+  abbrev lines : List Line
+  lines = operation-list list m s
+
+  abbrev Says : Option Line → Answer A → Type 0
+  Says none o = o ≡ accepted (value m s) (end m s)
+  Says (some x) o = o ≡ refused (x .number) (x .position)
+
+  says : (x : Option Line) → first-line lines ≡ x → Says x (operation r m s)
+  unfolding operation at first-line
+  says x e = by (addressable m s) x e
+    where
+      here : (x : Option Line) → first-line (list m s) ≡ x → Says x (answer (r (drop s m) s))
+      here none e = rw (h .passes m s e) refl
+      here (some x) e = h .stops m s x e
+
+      by : (b : Bool) (x : Option Line) → first-line (unless 1 b ∷ list m s) ≡ x → Says x (elim b as (λ c. Answer A) [ true ↦ answer (r (drop s m) s) | false ↦ refused 1 0 ])
+      by true x e = here x e
+      by false none e = let z : _≡_ {A = ℕ} 0 1 = cc in absurd (omega arith)
+      by false (some x) e = let z : unless 1 false ≡ x = cc in rw (← z) refl
+
+  pub first-refusal : FirstRefusal r list m s
+  first-refusal =
+      record {
+        refuses = λ k p e. found k p e (first-line lines) refl;
+        applies = λ k p f. let (w, e, n, q) = applies-first lines k p f in rw (n, q) at (says (some w) e);
+        accepts = λ f. (value m s, end m s, says none (applies-none lines f));
+      }
+    where
+      found : (k p : ℕ) → operation r m s ≡ refused k p → (x : Option Line) → first-line lines ≡ x → FirstApplies lines k p
+      found k p e none q = let z : _≡_ {A = Answer A} (refused k p) (accepted (value m s) (end m s)) = sym e ∙ says none q in refused-is-no-accepted z
+      found k p e (some x) q =
+          let z : _≡_ {A = Answer A} (refused (x .number) (x .position)) (refused k p) = sym (says (some x) q) ∙ e in
+          let a : x .number ≡ k = cc in
+          let b : x .position ≡ p = cc in
+          rw (a, b) at (first-applies lines x q)
+
+pub first-refusals : FirstRefusals
+first-refusals =
+    record {
+      of-context = λ mode room. first-refusal (context-into-goes mode room);
+      of-find = λ k. first-refusal (find-goes k);
+      of-keys = λ max room. first-refusal (keys-into-goes max room);
+      of-body = λ q. first-refusal (body-goes q);
+      of-auth = λ suite. first-refusal (auth-goes suite);
+    }

@@ -1,0 +1,197 @@
+-- Document 01's lists of refusals for reading, as lists: a line an item, in its order. A line says, in terms of the message alone,
+-- when it applies and with which position. `FirstRefusal` ties them to the readers, both ways; it is proved in proofs/First.
+-- A line behind one that applies may speak of bytes that are not there; nothing rests on it. Assumes nothing.
+use mathlib.Core.Path.{_≡_}
+use mathlib.Core.Bool.{Bool, true, false, not, cond, _&&_, _||_}
+use mathlib.Core.List.{List, [], _∷_, _++_, map}
+use Prim.Native.Nat.{ℕ, zero, suc, _+_, _*_, _-_}
+use lib.Dec.{leb, ltb, eqb}
+use lib.ListN.{length}
+use Rattle.format.specs.Read.{Reader, accepted, refused, addressable, operation}
+use Rattle.format.specs.Serialize.{every}
+use Rattle.format.specs.Utf8.{valid-utf8-seq}
+use Rattle.format.specs.Shared.{by, one-or-two, known, of-version, suite-version, frame-fits}
+use Rattle.format.specs.Fields.{PairAt, pair-of}
+use Rattle.format.specs.Context.{Mode, tolerant, is-strict, seen, pair-length, linear-length, read-aad-section-into, find-value}
+use Rattle.format.specs.Keys.{Max, within, read-encrypted-data-keys-section-into}
+use Rattle.format.specs.Body.{Which, asked, Request, read-body}
+use Rattle.format.specs.Auth.{read-header-auth-tag}
+use Rattle.format.specs.Places.{number8, number16, number32, entry-here, entry-end, pair-here, pair-end, pairs-end, key-here, key-end, section-pairs, section-keys, section-keys-end}
+
+-- a line of a list: a refusal's number and position, and whether it applies
+pub record Line : Type 0 where
+  pub number : ℕ
+  pub position : ℕ
+  pub applies : Bool
+
+-- 2, where fewer than n bytes are left from s on: the position is the place behind those wanted
+abbrev pub lacks : ℕ → List ℕ → ℕ → Line
+lacks n m s = record { number = 2; position = s + n; applies = ltb (length m - s) n }
+
+-- any other refusal has the position 0: k, where b holds; and k, where b does not
+abbrev pub when : ℕ → Bool → Line
+when k b = record { number = k; position = 0; applies = b }
+
+abbrev pub unless : ℕ → Bool → Line
+unless k b = when k (not b)
+
+-- no line applies
+abbrev pub NoneApplies : List Line → Type 0
+NoneApplies lines = every (λ (x : Line). not (x .applies)) lines ≡ true
+
+-- a line with that number and position applies, and none before it does
+pub record FirstApplies (lines : List Line) (number position : ℕ) : Type 0 where
+  pub before : List Line
+  pub line : Line
+  pub behind : List Line
+  pub listed : lines ≡ before ++ (line ∷ behind)
+  pub none-before : NoneApplies before
+  pub line-applies : line .applies ≡ true
+  pub its-number : line .number ≡ number
+  pub its-position : line .position ≡ position
+
+-- THE LISTS. An entry: its length, its bytes
+unfoldable pub entry-list : List ℕ → ℕ → List Line
+entry-list m s = lacks 2 m s ∷ lacks (number16 m s) m (s + 2) ∷ []
+
+-- n items, one behind the other, each in the light of those before it
+unfoldable pub each-list : {A : Type 0} → (List A → List ℕ → ℕ → List Line) → (List ℕ → ℕ → A) → (List ℕ → ℕ → ℕ) → ℕ → List A → List ℕ → ℕ → List Line
+each-list list here end zero done m s = []
+each-list list here end (suc n) done m s = list done m s ++ each-list list here end n (done ++ (here m s ∷ [])) m (end m s)
+
+-- A pair, behind those pairs
+unfoldable pub pair-list : List PairAt → List ℕ → ℕ → List Line
+pair-list done m s =
+    let p = pair-here m s in
+    let before = map pair-of done in
+    (entry-list m s
+    ++ (unless 10 (valid-utf8-seq (p .key .bytes))
+    ∷ (entry-list m (entry-end m s)
+    ++ (unless 11 (valid-utf8-seq (p .value .bytes))
+    ∷ when 12 (seen (p .key .bytes) before)
+    ∷ unless 13 (ltb (linear-length before + pair-length (pair-of p)) 65534)
+    ∷ []))))
+
+-- What follows a context section's length n; true: n is 0, and nothing follows
+unfoldable pub context-list-of : Mode → Bool → ℕ → List ℕ → ℕ → List Line
+context-list-of mode true n m s = []
+context-list-of mode false n m s =
+    let count = number16 m s in
+    (lacks n m s
+    ∷ lacks 2 m s
+    ∷ when 8 (eqb n 2 && not (eqb count 0))
+    ∷ when 21 (eqb n 2 && (eqb count 0 && is-strict mode))
+    ∷ when 9 (not (eqb n 2) && eqb count 0)
+    ∷ (each-list pair-list pair-here pair-end count [] m (s + 2)
+    ++ (unless 14 (eqb (pairs-end m count (s + 2)) (s + n))
+    ∷ [])))
+
+unfoldable pub context-list : Mode → List ℕ → ℕ → List Line
+context-list mode m s = lacks 2 m s ∷ context-list-of mode (eqb (number16 m s) 0) (number16 m s) m (s + 2)
+
+-- A key, whatever keys stand before it
+unfoldable pub key-list : List ℕ → ℕ → List Line
+key-list m s =
+    entry-list m s
+    ++ (unless 16 (valid-utf8-seq (entry-here m s .bytes))
+    ∷ (entry-list m (entry-end m s)
+    ++ entry-list m (entry-end m (entry-end m s))))
+
+unfoldable pub keys-list : Max → List ℕ → ℕ → List Line
+keys-list max m s =
+    let count = number16 m s in
+    (lacks 2 m s
+    ∷ unless 15 (within count max)
+    ∷ each-list (λ done. key-list) key-here key-end count [] m (s + 2))
+
+-- What stands before a body's context section, behind the version byte; true: version 1
+unfoldable pub opening-list-of : Bool → List ℕ → ℕ → List Line
+opening-list-of true m s =
+    let suite = number16 m (s + 1) in
+    (lacks 1 m s
+    ∷ unless 5 (eqb (number8 m s) 0x80)
+    ∷ lacks 2 m (s + 1)
+    ∷ unless 6 (known suite)
+    ∷ unless 7 (of-version 1 suite)
+    ∷ lacks 16 m (s + 1 + 2)
+    ∷ [])
+opening-list-of false m s =
+    let suite = number16 m s in
+    (lacks 2 m s
+    ∷ unless 6 (known suite)
+    ∷ unless 7 (of-version 2 suite)
+    ∷ lacks 32 m (s + 2)
+    ∷ [])
+
+unfoldable pub opening-list : Which → List ℕ → ℕ → List Line
+opening-list which m s =
+    let version = number8 m s in
+    (lacks 1 m s
+    ∷ unless 3 (one-or-two version)
+    ∷ unless 4 (asked which version)
+    ∷ opening-list-of (eqb version 1) m (s + 1))
+
+-- What stands behind a body's key section; true: version 1
+unfoldable pub closing-list-of : Bool → List ℕ → ℕ → List Line
+closing-list-of true m s =
+    lacks 4 m s
+    ∷ unless 18 (eqb (number32 m s) 0)
+    ∷ lacks 1 m (s + 4)
+    ∷ unless 19 (eqb (number8 m (s + 4)) 12)
+    ∷ lacks 4 m (s + 4 + 1)
+    ∷ []
+closing-list-of false m s = lacks 4 m s ∷ lacks 32 m (s + 4) ∷ []
+
+unfoldable pub closing-list : Bool → List ℕ → ℕ → List Line
+closing-list v1 m s = lacks 1 m s ∷ unless 17 (one-or-two (number8 m s)) ∷ closing-list-of v1 m (s + 1)
+
+-- the frame length, of a closing at s; true: version 1, which has the reserved bytes and the IV length in front of it
+abbrev pub frame-here : Bool → List ℕ → ℕ → ℕ
+frame-here v1 m s = cond v1 (number32 m (s + 1 + 4 + 1)) (number32 m (s + 1))
+
+-- A body: the context section stands 20 or 35 bytes behind its start, and each part where the one before it ends
+unfoldable pub body-list : Request → List ℕ → ℕ → List Line
+body-list q m s =
+    let version = number8 m s in
+    let aad = s + by version 20 35 in
+    let edks = entry-end m aad in
+    let closing = section-keys-end m edks in
+    let v1 = eqb version 1 in
+    (opening-list (q .which) m s
+    ++ (context-list (q .mode) m aad
+    ++ (keys-list (q .max) m edks
+    ++ (closing-list v1 m closing
+    ++ (unless 20 (not (q .frames) || frame-fits (number8 m closing) (frame-here v1 m closing))
+    ∷ unless 22 (leb (4 * length (section-pairs m aad)) (q .pairRoom))
+    ∷ unless 23 (leb (6 * length (section-keys m edks)) (q .keyRoom))
+    ∷ [])))))
+
+-- An authentication record of a suite: version 1 has an IV
+unfoldable pub auth-list : ℕ → List ℕ → ℕ → List Line
+auth-list suite m s = unless 6 (known suite) ∷ cond (eqb (suite-version suite) 1) (lacks 12 m s ∷ lacks 16 m (s + 12) ∷ []) (lacks 16 m s ∷ [])
+
+-- Sections as operations of their own, and find
+unfoldable pub context-into-list : Mode → ℕ → List ℕ → ℕ → List Line
+context-into-list mode room m s = context-list mode m s ++ (unless 22 (leb (4 * length (section-pairs m s)) room) ∷ [])
+
+unfoldable pub keys-into-list : Max → ℕ → List ℕ → ℕ → List Line
+keys-into-list max room m s = keys-list max m s ++ (unless 23 (leb (6 * length (section-keys m s)) room) ∷ [])
+
+unfoldable pub find-list : List ℕ → List ℕ → ℕ → List Line
+find-list k m s = context-list tolerant m s ++ (unless 29 (seen k (map pair-of (section-pairs m s))) ∷ [])
+
+-- AN OPERATION refuses by the first line that applies, 1 in front of them all, and accepts where none does
+abbrev pub operation-list : (List ℕ → ℕ → List Line) → List ℕ → ℕ → List Line
+operation-list list m s = unless 1 (addressable m s) ∷ list m s
+
+pub record FirstRefusal {A : Type 0} (r : Reader A) (list : List ℕ → ℕ → List Line) (m : List ℕ) (s : ℕ) : Type 0 where
+  pub refuses : (k p : ℕ) → operation r m s ≡ refused k p → FirstApplies (operation-list list m s) k p
+  pub applies : (k p : ℕ) → FirstApplies (operation-list list m s) k p → operation r m s ≡ refused k p
+  pub accepts : NoneApplies (operation-list list m s) → (a : A) × (t : ℕ) × (operation r m s ≡ accepted a t)
+
+pub record FirstRefusals : Type 0 where
+  pub of-context : (mode : Mode) (room : ℕ) (m : List ℕ) (s : ℕ) → FirstRefusal (read-aad-section-into mode room) (context-into-list mode room) m s
+  pub of-find : (k m : List ℕ) (s : ℕ) → FirstRefusal (find-value k) (find-list k) m s
+  pub of-keys : (max : Max) (room : ℕ) (m : List ℕ) (s : ℕ) → FirstRefusal (read-encrypted-data-keys-section-into max room) (keys-into-list max room) m s
+  pub of-body : (q : Request) (m : List ℕ) (s : ℕ) → FirstRefusal (read-body q) (body-list q) m s
+  pub of-auth : (suite : ℕ) (m : List ℕ) (s : ℕ) → FirstRefusal (read-header-auth-tag suite) (auth-list suite) m s
