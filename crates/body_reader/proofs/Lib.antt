@@ -2,4 +2,3 @@ pub mod Frames
 pub mod Stages
 pub mod MeasureLaws
 pub mod BodyLaws
-pub mod Promises

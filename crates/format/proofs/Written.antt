@@ -69,6 +69,13 @@ module _ (o p ps k ks c : List Check) where
       let (hks, hc) = split ks c r′ in
       join o ((p ++ ps) ++ ((k ++ ks) ++ c)) ho (join (p ++ ps) ((k ++ ks) ++ c) (join p ps hp hps) (join (k ++ ks) c (join k ks hk hks) hc))
 
+  put-in-held : Holds (o ++ ((p ++ ps) ++ ((k ++ ks) ++ c))) → Holds p × Holds k
+  put-in-held h =
+      let (ho, r) = split o ((p ++ ps) ++ ((k ++ ks) ++ c)) h in
+      let (hps, r′) = split (p ++ ps) ((k ++ ks) ++ c) r in
+      let (hks, hc) = split (k ++ ks) c r′ in
+      (split p ps hps .0, split k ks hks .0)
+
   leave-out : Holds (o ++ ((p ++ ps) ++ ((k ++ ks) ++ c))) → Holds (o ++ (ps ++ (ks ++ c)))
   leave-out h =
       let (ho, r) = split o ((p ++ ps) ++ ((k ++ ks) ++ c)) h in
@@ -92,6 +99,10 @@ module _ (p k : List Check) (f : Fields) where
   unfolding body-checks
   without-26 = leave-out opens p (pairs-checks (f .pairs)) k (keys-checks (f .keys)) closes
 
+  the-26 : Holds (body-checks p k f) → Holds p × Holds k
+  unfolding body-checks
+  the-26 = put-in-held opens p (pairs-checks (f .pairs)) k (keys-checks (f .keys)) closes
+
 module _ (w : BodyToWrite) (out : List ℕ) where
   abbrev img : List ℕ
   img = image today (fields-to-write w)
@@ -111,14 +122,17 @@ module _ (w : BodyToWrite) (out : List ℕ) where
   frame-is = refl
 
   only-then : (n : ℕ) → w .frameLength < 4294967296 → written (writing-header-body w) out ≡ accepted tt n
-      → Accepts (fields-to-write w) × (n ≡ length img) × (n ≤ length out) × (output-after (writing-header-body w) out ≡ filled img out)
+      → Accepts (fields-to-write w) × (first (table-checks 4 (w .text) (w .pairTable)) ≡ none) × (first (table-checks 6 (w .text) (w .keyTable)) ≡ none)
+      × (n ≡ length img) × (n ≤ length out) × (output-after (writing-header-body w) out ≡ filled img out)
   unfolding writing-header-body
   only-then n wide e =
       let f = fields-to-write w in
       let p₂₆ = table-checks 4 (w .text) (w .pairTable) in
       let k₂₆ = table-checks 6 (w .text) (w .keyTable) in
       let (c, d, room, o) = writer-law (writing-header-body w) out .only-then n e in
-      (record { none-applies = unheld (body-checks [] [] f) (without-26 p₂₆ k₂₆ f (holds (body-checks p₂₆ k₂₆ f) c)); frame-is-32-bits = rw frame-is wide }, d, room, o)
+      let h = holds (body-checks p₂₆ k₂₆ f) c in
+      let (hp, hk) = the-26 p₂₆ k₂₆ f h in
+      (record { none-applies = unheld (body-checks [] [] f) (without-26 p₂₆ k₂₆ f h); frame-is-32-bits = rw frame-is wide }, unheld p₂₆ hp, unheld k₂₆ hk, d, room, o)
 
   read-back : (n : ℕ) → w .frameLength < 4294967296 → written (writing-header-body w) out ≡ accepted tt n → length out ≤ 4294967295
       → (max : Max) (pairRoom keyRoom : ℕ) → 4 * length (fields-to-write w .pairs) ≤ pairRoom → 6 * length (fields-to-write w .keys) ≤ keyRoom
@@ -126,7 +140,7 @@ module _ (w : BodyToWrite) (out : List ℕ) where
       → (b : HeaderBody) × (operation (read-header-body either tolerant max pairRoom keyRoom) (output-after (writing-header-body w) out) 0 ≡ accepted b n)
       × Gives (output-after (writing-header-body w) out) b (fields-to-write w)
   read-back n wide e fits max pairRoom keyRoom hp hk hm =
-      let (a, d, room, o) = only-then n wide e in
+      let (a, p, k, d, room, o) = only-then n wide e in
       let long : length (filled img out) ≡ length out = ap length (sym o) ∙ writer-law (writing-header-body w) out .as-long in
       let z = all max pairRoom keyRoom (filled img out) 0 (rw long fits) today (fields-to-write w)
       (record { accepts = a; after = drop (length img) out; bytes = refl; pairs-held = hp; keys-held = hk; max-not-passed = hm }) in

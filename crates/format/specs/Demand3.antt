@@ -116,9 +116,10 @@ pub record Sentence4 (w : BodyToWrite) (out : List ℕ) : Type 0 where
       → length (image today (fields-to-write w)) ≤ length out
       → (written (writing-header-body w) out ≡ accepted tt (length (image today (fields-to-write w))))
       × (output-after (writing-header-body w) out ≡ filled (image today (fields-to-write w)) out)
-  -- and where it is accepted, no refusal applied
+  -- and where it is accepted, no refusal applied, 26 and 28 among them
   pub only-then : (n : ℕ) → w .frameLength < 4294967296 → written (writing-header-body w) out ≡ accepted tt n
-      → Accepts (fields-to-write w) × (n ≡ length (image today (fields-to-write w))) × (n ≤ length out) × (output-after (writing-header-body w) out ≡ filled (image today (fields-to-write w)) out)
+      → Accepts (fields-to-write w) × (first (table-checks 4 (w .text) (w .pairTable)) ≡ none) × (first (table-checks 6 (w .text) (w .keyTable)) ≡ none)
+      × (n ≡ length (image today (fields-to-write w))) × (n ≤ length out) × (output-after (writing-header-body w) out ≡ filled (image today (fields-to-write w)) out)
   pub read-back : (n : ℕ) → w .frameLength < 4294967296 → written (writing-header-body w) out ≡ accepted tt n → length out ≤ 4294967295
       → (max : Max) (pairRoom keyRoom : ℕ) → 4 * length (fields-to-write w .pairs) ≤ pairRoom → 6 * length (fields-to-write w .keys) ≤ keyRoom
       → within (length (fields-to-write w .keys)) max ≡ true

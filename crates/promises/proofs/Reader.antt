@@ -1,0 +1,96 @@
+-- Demand 3 of the body reader's calls: the definition's, by the contract. Assumes nothing.
+use Prim.Native.Nat.{ℕ, _+_, _≤_, _<_}
+use native.Mathlib.Omega.{arith}
+use mathlib.Core.Path.{_≡_, refl, sym, ap, _∙_}
+use mathlib.Core.Bool.{Bool, true, false, cond}
+use mathlib.Core.List.{List}
+use lib.ListN.{length}
+use Rattle.format.specs.Read.{Answer, accepted, refused, operation}
+use Rattle.format.specs.Serialize.{Bytes}
+use Rattle.format.specs.Fields.{Fields}
+use Rattle.format.specs.Fields.{HeaderBody as BodyRead}
+use Rattle.format.specs.Context.{Form, Mode, tolerant, strict}
+use Rattle.format.specs.Keys.{Max}
+use Rattle.format.specs.Body.{Which, either, tests-frames, request, read-body, read-header-body}
+use Rattle.format.specs.First.{FirstApplies, FirstRefusal, body-list}
+use Rattle.format.specs.Demand3.{Stands, reaches-old}
+use Rattle.format.proofs.FirstBody.{first-refusals}
+use Rattle.format.proofs.Demand3.{demand-3}
+use Rattle.wire.specs.Codes.{because}
+use Rattle.wire.specs.declared.Refusal.{Refusal}
+use Rattle.body_reader.specs.Codes.{body-of}
+use Rattle.body_reader.specs.declared.HeaderBody.{HeaderBody}
+use Rattle.body_reader.specs.declared.HeaderBodyAnswer.{HeaderBodyAnswer}
+use Rattle.body_reader.specs.declared.HeaderBodyAnswer.the-variants.{Accepted, Refused}
+use Rattle.promises.specs.Reader.{Call, reading, Meets, Accepts, Refuses, Listed, Sentence1, Sentence2, Sentence3, ReaderPromises}
+
+module _ (c : Call) (o : Answer BodyRead) (call : Meets o c) where
+  pub accepts : (b : BodyRead) (t : ℕ) → o ≡ accepted b t → Accepts c b t
+  accepts b t e = record { answer = rw e at (call .answer); pairTable = rw e at (call .pairTable); keyTable = rw e at (call .keyTable) }
+
+  refuses : (k p : ℕ) → o ≡ refused k p → Refuses c k p
+  refuses k p e = record { answer = rw e at (call .answer); pairTable = rw e at (call .pairTable); keyTable = rw e at (call .keyTable) }
+
+accepted-is : (r : HeaderBodyAnswer) (o : Answer BodyRead) → r ≡ body-of o → (x : HeaderBody) (t : ℕ) → r ≡ Accepted x t → (b : BodyRead) × (o ≡ accepted b t)
+accepted-is r (accepted b u) e x t f = (b, ap (accepted b) (cc))
+accepted-is r (refused k p) e x t f = let z : _≡_ {A = ℕ} 0 1 = cc in absurd (omega arith)
+
+refused-is : (r : HeaderBodyAnswer) (o : Answer BodyRead) → r ≡ body-of o → (q : Refusal) → r ≡ Refused q → o ≡ refused (q .number) (q .position)
+refused-is r (accepted b u) e q f = let z : _≡_ {A = ℕ} 0 1 = cc in absurd (omega arith)
+refused-is r (refused k p) e q f = let z : because k p ≡ q = cc in rw (← z) refl
+
+module _ (which : Which) (mode : Mode) (max : Max) (m : List ℕ) (s : ℕ) (c : Call) (call : Meets (reading which mode max m s c) c) where
+  law : FirstRefusal (read-header-body which mode max (length (c .pairs)) (length (c .keys))) (body-list (request which mode (tests-frames which) max (length (c .pairs)) (length (c .keys)))) m s
+  unfolding read-header-body
+  law = first-refusals .of-body (request which mode (tests-frames which) max (length (c .pairs)) (length (c .keys))) m s
+
+  listed : Listed which mode max m s c
+  listed =
+      record {
+        refuses = λ q e. law .refuses (q .number) (q .position) (refused-is (c .answer) (reading which mode max m s c) (call .answer) q e);
+        applies = λ k p f. refuses c (reading which mode max m s c) call k p (law .applies k p f);
+      }
+
+module _ (max : Max) (m : List ℕ) (s : ℕ) (c : Call) (bytes : Bytes m) (call : Meets (reading either tolerant max m s c) c) where
+  abbrev said : Answer BodyRead
+  said = reading either tolerant max m s c
+
+  sentence-1 : Sentence1 max m s c
+  sentence-1 =
+      let law = demand-3 .sentence-1 max (length (c .pairs)) (length (c .keys)) m s bytes in
+      record {
+        only = λ h x tail e.
+            (let (b, q) = accepted-is (c .answer) said (call .answer) x tail e in
+            let y = law .only h b tail q in
+            (y .0, y .1, b, y .2, y .3, accepts c said call b tail q, y .4));
+        all = λ h form f e. (let y = law .all h form f e in (y .0, accepts c said call (y .0) _ (y .1), y .2));
+        otherwise = λ h none. (let y = law .otherwise h none in (y .0, y .1, refuses c said call (y .0) (y .1) (y .2), y .3));
+        longer = λ h. refuses c said call 1 0 (law .longer h);
+        farther = λ h. refuses c said call 1 0 (law .farther h);
+      }
+
+-- one answer or another, by a test
+by-answer : (b : Bool) (k : ℕ) (o : Answer BodyRead) → body-of (cond b (refused k 0) o) ≡ cond b (Refused (because k 0)) (body-of o)
+by-answer true k o = refl
+by-answer false k o = refl
+
+module _ (which : Which) (max : Max) (m : List ℕ) (s : ℕ) (c d : Call) (bytes : Bytes m) (tolerantly : Meets (reading which tolerant max m s c) c)
+    (strictly : Meets (reading which strict max m s d) d) (pairs : c .pairs ≡ d .pairs) (keys : c .keys ≡ d .keys) where
+  sentence-2 : Sentence2 which m s c d
+  sentence-2 =
+      let y = demand-3 .sentence-2 which max (length (d .pairs)) (length (d .keys)) m s bytes in
+      let t : Meets (operation (read-header-body which tolerant max (length (d .pairs)) (length (d .keys))) m s) (record { pairs = d .pairs; pairs′ = c .pairs′; keys = d .keys; keys′ = c .keys′; answer = c .answer }) =
+      rw (pairs, keys) at tolerantly in
+      record {
+        answer = strictly .answer ∙ ap body-of (y .answers) ∙ by-answer (reaches-old which m s) 21 _ ∙ ap (cond (reaches-old which m s) (Refused (because 21 0))) (sym (t .answer));
+        pairTable = strictly .pairTable ∙ y .pair-table (d .pairs) ∙ ap (cond (reaches-old which m s) (d .pairs)) (sym (t .pairTable));
+        keyTable = strictly .keyTable ∙ y .key-table (d .keys) ∙ ap (cond (reaches-old which m s) (d .keys)) (sym (t .keyTable));
+      }
+
+sentence-3 : (mode : Mode) (max : Max) (m : List ℕ) (s : ℕ) (c : Call) → length m ≤ 4294967295 → Sentence3 mode max m s c
+sentence-3 mode max m s c h =
+    let law = demand-3 .sentence-3 mode max (length (c .pairs)) (length (c .keys)) m s h in
+    record { version-1 = λ call. rw (law .version-1) at call; version-2 = λ call. rw (law .version-2) at call }
+
+pub reader-promises : ReaderPromises
+reader-promises = record { listed = listed; sentence-1 = sentence-1; sentence-2 = sentence-2; sentence-3 = sentence-3 }

@@ -1,0 +1,91 @@
+-- Demand 3 of the code: what every call of `read_header_body` answers and leaves in its tables, by its contract. Proved in
+-- proofs/Reader. Assumes nothing.
+use Prim.Native.Nat.{ℕ, _+_, _≤_, _<_}
+use mathlib.Core.Path.{_≡_}
+use mathlib.Core.Bool.{cond}
+use mathlib.Core.List.{List}
+use lib.ListN.{length}
+use Rattle.format.specs.Read.{Answer, refused, operation}
+use Rattle.format.specs.Serialize.{Bytes}
+use Rattle.format.specs.Fields.{Fields}
+use Rattle.format.specs.Fields.{HeaderBody as BodyRead}
+use Rattle.format.specs.Context.{Form, Mode, tolerant, strict}
+use Rattle.format.specs.Keys.{Max}
+use Rattle.format.specs.Body.{Which, either, v1-only, v2-only, tests-frames, request, read-header-body, read-header-body-untested, image}
+use Rattle.format.specs.Lent.{filled, pair-numbers, key-numbers}
+use Rattle.format.specs.First.{FirstApplies, Line, operation-list, body-list}
+use Rattle.format.specs.Demand3.{Stands, Gives, reaches-old, stands-at}
+use Rattle.wire.specs.Codes.{because}
+use Rattle.wire.specs.declared.Refusal.{Refusal}
+use Rattle.body_reader.specs.Codes.{body-code, ReadsBody}
+use Rattle.body_reader.specs.declared.HeaderBody.{HeaderBody}
+use Rattle.body_reader.specs.declared.HeaderBodyAnswer.{HeaderBodyAnswer}
+use Rattle.body_reader.specs.declared.HeaderBodyAnswer.the-variants.{Accepted, Refused}
+
+-- a call: both tables before and after it, and its answer
+pub record Call : Type 0 where
+  pub pairs : List ℕ
+  pub pairs′ : List ℕ
+  pub keys : List ℕ
+  pub keys′ : List ℕ
+  pub answer : HeaderBodyAnswer
+
+-- what the definition answers, with tables as long as the call's
+abbrev pub reading : Which → Mode → Max → List ℕ → ℕ → Call → Answer BodyRead
+reading which mode max m s c = operation (read-header-body which mode max (length (c .pairs)) (length (c .keys))) m s
+
+-- the call meets the contract, by that answer of the definition
+abbrev pub Meets : Answer BodyRead → Call → Type 0
+Meets o c = ReadsBody o (c .pairs) (c .pairs′) (c .keys) (c .keys′) (c .answer)
+
+-- it accepts: the code's record is that of the body b, and the tables hold the places of its pairs and keys
+pub record Accepts (c : Call) (b : BodyRead) (tail : ℕ) : Type 0 where
+  pub answer : c .answer ≡ Accepted (body-code b) tail
+  pub pairTable : c .pairs′ ≡ filled (pair-numbers (b .pairs)) (c .pairs)
+  pub keyTable : c .keys′ ≡ filled (key-numbers (b .keys)) (c .keys)
+
+-- it refuses, and the tables are as they were
+pub record Refuses (c : Call) (number position : ℕ) : Type 0 where
+  pub answer : c .answer ≡ Refused (because number position)
+  pub pairTable : c .pairs′ ≡ c .pairs
+  pub keyTable : c .keys′ ≡ c .keys
+
+-- document 01's list for the request
+abbrev pub listed : Which → Mode → Max → List ℕ → ℕ → Call → List Line
+listed which mode max m s c = operation-list (body-list (request which mode (tests-frames which) max (length (c .pairs)) (length (c .keys)))) m s
+
+-- it refuses by the first line of the list that applies, with its position
+pub record Listed (which : Which) (mode : Mode) (max : Max) (m : List ℕ) (s : ℕ) (c : Call) : Type 0 where
+  pub refuses : (q : Refusal) → c .answer ≡ Refused q → FirstApplies (listed which mode max m s c) (q .number) (q .position)
+  pub applies : (k p : ℕ) → FirstApplies (listed which mode max m s c) k p → Refuses c k p
+
+-- SENTENCE 1, of the tolerant either-version reader
+pub record Sentence1 (max : Max) (m : List ℕ) (s : ℕ) (c : Call) : Type 0 where
+  pub only : length m ≤ 4294967295 → (x : HeaderBody) (tail : ℕ) → c .answer ≡ Accepted x tail
+      → (form : Form) × (f : Fields) × (b : BodyRead) × Stands max (length (c .pairs)) (length (c .keys)) m s form f × Gives m b f × Accepts c b tail × (tail ≡ s + length (image form f))
+  pub all : length m ≤ 4294967295 → (form : Form) (f : Fields) → Stands max (length (c .pairs)) (length (c .keys)) m s form f
+      → (b : BodyRead) × Accepts c b (s + length (image form f)) × Gives m b f
+  pub otherwise : length m ≤ 4294967295 → ((form : Form) (f : Fields) → Stands max (length (c .pairs)) (length (c .keys)) m s form f → ⊥)
+      → (k : ℕ) × (p : ℕ) × Refuses c k p × FirstApplies (listed either tolerant max m s c) k p
+  pub longer : 4294967295 < length m → Refuses c 1 0
+  pub farther : 4294967295 < s → Refuses c 1 0
+
+-- SENTENCE 2, of a strict and a tolerant call with the same start, tables and maximum
+pub record Sentence2 (which : Which) (m : List ℕ) (s : ℕ) (tolerantly strictly : Call) : Type 0 where
+  pub answer : strictly .answer ≡ cond (reaches-old which m s) (Refused (because 21 0)) (tolerantly .answer)
+  pub pairTable : strictly .pairs′ ≡ cond (reaches-old which m s) (strictly .pairs) (tolerantly .pairs′)
+  pub keyTable : strictly .keys′ ≡ cond (reaches-old which m s) (strictly .keys) (tolerantly .keys′)
+
+-- SENTENCE 3, of a reader of one version: it meets the contract with this answer of the definition in the place of its own
+pub record Sentence3 (mode : Mode) (max : Max) (m : List ℕ) (s : ℕ) (c : Call) : Type 0 where
+  pub version-1 : Meets (reading v1-only mode max m s c) c
+      → Meets (cond (stands-at 2 m s) (refused 4 0) (operation (read-header-body-untested mode max (length (c .pairs)) (length (c .keys))) m s)) c
+  pub version-2 : Meets (reading v2-only mode max m s c) c
+      → Meets (cond (stands-at 1 m s) (refused 4 0) (operation (read-header-body-untested mode max (length (c .pairs)) (length (c .keys))) m s)) c
+
+pub record ReaderPromises : Type 0 where
+  pub listed : (which : Which) (mode : Mode) (max : Max) (m : List ℕ) (s : ℕ) (c : Call) → Meets (reading which mode max m s c) c → Listed which mode max m s c
+  pub sentence-1 : (max : Max) (m : List ℕ) (s : ℕ) (c : Call) → Bytes m → Meets (reading either tolerant max m s c) c → Sentence1 max m s c
+  pub sentence-2 : (which : Which) (max : Max) (m : List ℕ) (s : ℕ) (c d : Call) → Bytes m → Meets (reading which tolerant max m s c) c → Meets (reading which strict max m s d) d
+      → c .pairs ≡ d .pairs → c .keys ≡ d .keys → Sentence2 which m s c d
+  pub sentence-3 : (mode : Mode) (max : Max) (m : List ℕ) (s : ℕ) (c : Call) → length m ≤ 4294967295 → Sentence3 mode max m s c
