@@ -1,0 +1,64 @@
+-- Each reader's answer refuses by the first line that applies. Assumes nothing.
+use Prim.Native.Nat.{ℕ}
+use native.Mathlib.Omega.{arith}
+use mathlib.Core.Path.{_≡_, refl, sym, ap, _∙_}
+use mathlib.Core.List.{List}
+use Rattle.format.specs.Read.{Reader, Answer, accepted, refused, operation}
+use Rattle.format.specs.Serialize.{Part}
+use Rattle.format.specs.Fields.{PairAt, EncryptedDataKeyAt}
+use Rattle.format.specs.Auth.{HeaderAuth}
+use Rattle.format.specs.First.{Line, FirstApplies, FirstRefusal, operation-list}
+use Rattle.format.proofs.FirstBody.{first-refusals}
+use Rattle.wire.specs.Codes.{because}
+use Rattle.wire.specs.declared.Refusal.{Refusal}
+use Rattle.context.specs.Codes.{context-of, found-of}
+use Rattle.context.specs.declared.ContextAnswer.the-variants as context
+use Rattle.context.specs.declared.FoundAnswer.the-variants as found
+use Rattle.keys.specs.Codes.{keys-of}
+use Rattle.keys.specs.declared.KeysAnswer.the-variants as keys
+use Rattle.auth.specs.Codes.{auth-of}
+use Rattle.auth.specs.declared.AuthRead.{AuthRead}
+use Rattle.promises.specs.Listed.{ByFirst, AuthByFirst, ListedPromises}
+
+-- an answer enum that keeps a refusal apart from what is accepted
+module _ {A R : Type 0} (code : Answer A → R) (refused-as : Refusal → R)
+    (back : (o : Answer A) (q : Refusal) → code o ≡ refused-as q → o ≡ refused (q .number) (q .position)) (there : (k p : ℕ) → code (refused k p) ≡ refused-as (because k p)) where
+  by-first : {r : Reader A} {list : List ℕ → ℕ → List Line} {m : List ℕ} {s : ℕ} → FirstRefusal r list m s → (x : R) → x ≡ code (operation r m s) → ByFirst refused-as (operation-list list m s) x
+  by-first {r} {list} {m} {s} law x e =
+      record {
+        refuses = λ q f. law .refuses (q .number) (q .position) (back (operation r m s) q (sym e ∙ f));
+        applies = λ k p f. e ∙ ap code (law .applies k p f) ∙ there k p;
+      }
+
+back-context : (o : Answer (List PairAt)) (q : Refusal) → context-of o ≡ context.Refused q → o ≡ refused (q .number) (q .position)
+back-context (accepted ps t) q e = let z : _≡_ {A = ℕ} 0 1 = cc in absurd (omega arith)
+back-context (refused k p) q e = let z : because k p ≡ q = cc in rw (← z) refl
+
+back-found : (o : Answer Part) (q : Refusal) → found-of o ≡ found.Refused q → o ≡ refused (q .number) (q .position)
+back-found (accepted ps t) q e = let z : _≡_ {A = ℕ} 0 1 = cc in absurd (omega arith)
+back-found (refused k p) q e = let z : because k p ≡ q = cc in rw (← z) refl
+
+back-keys : (o : Answer (List EncryptedDataKeyAt)) (q : Refusal) → keys-of o ≡ keys.Refused q → o ≡ refused (q .number) (q .position)
+back-keys (accepted ps t) q e = let z : _≡_ {A = ℕ} 0 1 = cc in absurd (omega arith)
+back-keys (refused k p) q e = let z : because k p ≡ q = cc in rw (← z) refl
+
+auth-by-first : {r : Reader HeaderAuth} {list : List ℕ → ℕ → List Line} {m : List ℕ} {s : ℕ} → FirstRefusal r list m s → (x : AuthRead) → x ≡ auth-of (operation r m s)
+    → AuthByFirst (operation-list list m s) x
+auth-by-first {r} {list} {m} {s} law x e =
+    record {
+      refuses = λ some. by (operation r m s) refl some;
+      applies = λ k p f. let z = e ∙ ap auth-of (law .applies k p f) in (ap (λ (y : AuthRead). y .number) z, ap (λ (y : AuthRead). y .position) z);
+    }
+  where
+    by : (o : Answer HeaderAuth) → operation r m s ≡ o → (x .number ≡ 0 → ⊥) → FirstApplies (operation-list list m s) (x .number) (x .position)
+    by (accepted a t) is some = let z = e ∙ ap auth-of is in absurd (some (ap (λ (y : AuthRead). y .number) z))
+    by (refused k p) is some = let z : x ≡ auth-of (refused k p) = e ∙ ap auth-of is in rw z (law .refuses k p is)
+
+pub listed-promises : ListedPromises
+listed-promises =
+    record {
+      of-context = λ mode room m s before after r call. by-first context-of context.Refused back-context (λ k p. refl) (first-refusals .of-context mode room m s) r (call .answer);
+      of-find = λ k m s r call. by-first found-of found.Refused back-found (λ k p. refl) (first-refusals .of-find k m s) r call;
+      of-keys = λ max room m s before after r call. by-first keys-of keys.Refused back-keys (λ k p. refl) (first-refusals .of-keys max room m s) r (call .answer);
+      of-auth = λ suite m s r call. auth-by-first (first-refusals .of-auth suite m s) r call;
+    }

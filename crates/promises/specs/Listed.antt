@@ -1,0 +1,42 @@
+-- The first refusal listed that applies, of the code: what every call of the other readers answers, by its contract. Proved in
+-- proofs/Listed. Assumes nothing.
+use Prim.Native.Nat.{ℕ}
+use mathlib.Core.Path.{_≡_}
+use mathlib.Core.List.{List}
+use Rattle.format.specs.Read.{operation}
+use Rattle.format.specs.Context.{Mode, read-aad-section-into, find-value}
+use Rattle.format.specs.Keys.{Max, read-encrypted-data-keys-section-into}
+use Rattle.format.specs.Auth.{read-header-auth-tag}
+use Rattle.format.specs.Lent.{pair-numbers, key-numbers}
+use Rattle.format.specs.First.{Line, FirstApplies, operation-list, context-into-list, keys-into-list, find-list, auth-list}
+use Rattle.wire.specs.Codes.{because}
+use Rattle.wire.specs.declared.Refusal.{Refusal}
+use Rattle.entries.specs.Codes.{Reads}
+use Rattle.context.specs.Codes.{context-of, found-of}
+use Rattle.context.specs.declared.ContextAnswer.{ContextAnswer}
+use Rattle.context.specs.declared.ContextAnswer.the-variants as context
+use Rattle.context.specs.declared.FoundAnswer.{FoundAnswer}
+use Rattle.context.specs.declared.FoundAnswer.the-variants as found
+use Rattle.keys.specs.Codes.{keys-of}
+use Rattle.keys.specs.declared.KeysAnswer.{KeysAnswer}
+use Rattle.keys.specs.declared.KeysAnswer.the-variants as keys
+use Rattle.auth.specs.Codes.{auth-of}
+use Rattle.auth.specs.declared.AuthRead.{AuthRead}
+
+-- an answer refuses just by the first line that applies, with its position
+pub record ByFirst {R : Type 0} (refused : Refusal → R) (list : List Line) (r : R) : Type 0 where
+  pub refuses : (q : Refusal) → r ≡ refused q → FirstApplies list (q .number) (q .position)
+  pub applies : (k p : ℕ) → FirstApplies list k p → r ≡ refused (because k p)
+
+-- an authentication record's answer is a struct, with number 0 where it accepts
+pub record AuthByFirst (list : List Line) (r : AuthRead) : Type 0 where
+  pub refuses : (r .number ≡ 0 → ⊥) → FirstApplies list (r .number) (r .position)
+  pub applies : (k p : ℕ) → FirstApplies list k p → (r .number ≡ k) × (r .position ≡ p)
+
+pub record ListedPromises : Type 0 where
+  pub of-context : (mode : Mode) (room : ℕ) (m : List ℕ) (s : ℕ) (before after : List ℕ) (r : ContextAnswer)
+      → Reads context-of pair-numbers (operation (read-aad-section-into mode room) m s) before after r → ByFirst context.Refused (operation-list (context-into-list mode room) m s) r
+  pub of-find : (k m : List ℕ) (s : ℕ) (r : FoundAnswer) → r ≡ found-of (operation (find-value k) m s) → ByFirst found.Refused (operation-list (find-list k) m s) r
+  pub of-keys : (max : Max) (room : ℕ) (m : List ℕ) (s : ℕ) (before after : List ℕ) (r : KeysAnswer)
+      → Reads keys-of key-numbers (operation (read-encrypted-data-keys-section-into max room) m s) before after r → ByFirst keys.Refused (operation-list (keys-into-list max room) m s) r
+  pub of-auth : (suite : ℕ) (m : List ℕ) (s : ℕ) (r : AuthRead) → r ≡ auth-of (operation (read-header-auth-tag suite) m s) → AuthByFirst (operation-list (auth-list suite) m s) r
