@@ -15,7 +15,3 @@ pub mod Refusals
 pub mod Demand3
 pub mod Sections
 pub mod Pinned
-pub mod Cases
-pub mod Texts
-pub mod Headers
-pub mod Faults

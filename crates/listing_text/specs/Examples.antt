@@ -5,8 +5,8 @@ use mathlib.Core.List.{List, [], _∷_}
 use Prim.Native.Nat.{ℕ}
 use lib.ListN.{take}
 use Rattle.format.specs.Serialize.{images}
-use Rattle.format.specs.Cases.{H, opened}
-use Rattle.format.specs.Headers.{H-with, bytes-from, V2}
+use Rattle.cases.specs.Cases.{H, opened}
+use Rattle.cases.specs.Headers.{H-with, bytes-from, V2}
 use Rattle.text.specs.Text.{decimal-in, decimal, field, line}
 use Rattle.listing_text.specs.Listing.{lines, number-fields, body-listing, listing}
 

@@ -7,16 +7,16 @@ use mathlib.Core.List.{List, [], _∷_, _++_}
 use Prim.Native.Nat.{ℕ}
 use lib.Dec.{eqb}
 use lib.ListN.{take, drop}
 use Rattle.format.specs.Read.{operation}
 use Rattle.format.specs.Serialize.{every}
 use Rattle.format.specs.Context.{Mode, tolerant, strict, read-aad-section-into, look-up, find-value}
 use Rattle.format.specs.Keys.{no-max, at-most, read-encrypted-data-keys-section-into}
 use Rattle.format.specs.Body.{Which, either, v1-only, v2-only, read-header-body}
 use Rattle.format.specs.Auth.{read-header-auth-tag, read-header-auth-tag-of, write-header-auth-tag, zeros}
 use Rattle.format.specs.Checks.{auth-checks}
 use Rattle.format.specs.Lent.{pair-numbers, key-numbers, items, part-in, in-text, table-checks, Writing, refusal-of, fields-to-write, writing-aad-section, writing-encrypted-data-keys-section, writing-header-body, writing-header-auth-tag}
-use Rattle.format.specs.Cases.{Expected, accepts, refuses, shortage-at, is, body-numbers, H, opened, laid-out}
-use Rattle.format.specs.Headers.{bytes-from, V2}
+use Rattle.cases.specs.Cases.{Expected, accepts, refuses, shortage-at, is, body-numbers, H, opened, laid-out}
+use Rattle.cases.specs.Headers.{bytes-from, V2}
 
 pub data Fault : Type 0 where
   -- a context section of a mode, with a table of so many numbers

@@ -5,11 +5,11 @@ use mathlib.Core.List.{List, [], _∷_, _++_}
 use Prim.Native.Nat.{ℕ}
 use lib.Dec.{eqb}
 use lib.ListN.{length, take, drop}
 use Rattle.format.specs.Serialize.{every, same-bytes}
 use Rattle.format.specs.Fields.{Fields}
 use Rattle.format.specs.Context.{old}
 use Rattle.format.specs.Body.{image}
-use Rattle.format.specs.Cases.{accepts, Case, body, writes, is, passes, body-numbers, H, H-fields, opened, laid-out}
+use Rattle.cases.specs.Cases.{accepts, Case, body, writes, is, passes, body-numbers, H, H-fields, opened, laid-out}
 
 -- H with another context section in the place of its own
 unfoldable pub H-with : List ℕ → List ℕ
