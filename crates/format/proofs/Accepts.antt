@@ -10,7 +10,7 @@ use lib.ListN.{length}
 use Rattle.format.specs.Serialize.{images, every, sum}
 use Rattle.format.specs.Shared.{SuiteRow, suites, version-in, known, frame-fits}
 use Rattle.format.specs.Fields.{Pair, EncryptedDataKey, Fields, pair-parts, key-parts}
-use Rattle.format.specs.Context.{pair-length, linear-length}
+use Rattle.format.specs.Context.{pair-length, linear-length, pairs-limit}
 use Rattle.format.specs.Body.{either}
 use Rattle.format.specs.Checks.{Check, check, first, each, has-uint16-len, count-checks, pair-checks, key-checks, pairs-checks, keys-checks, opening-checks, closing-checks, body-checks, Accepts}
 use Rattle.format.proofs.Tests.{leb-is, is-leb, eqb-is, is-eqb}
@@ -28,7 +28,7 @@ short-in xs e = let h = is-leb (length xs) 65535 e in omega arith
 short-out : (xs : List ℕ) → Short xs → has-uint16-len xs ≡ true
 short-out xs h = leb-is (length xs) 65535 (omega arith)
 
-pairs-good : (acc ps : List Pair) → every has-uint16-len (images pair-parts ps) ≡ true → linear-length acc + linear-length ps < 65534 → Holds (each pair-checks acc ps) → Oks NextOk acc ps
+pairs-good : (acc ps : List Pair) → every has-uint16-len (images pair-parts ps) ≡ true → linear-length acc + linear-length ps < pairs-limit → Holds (each pair-checks acc ps) → Oks NextOk acc ps
 unfolding every images each sum
 pairs-good acc [] e r h = tt
 pairs-good acc (p ∷ ps) e r (a, (b, (c, h))) =
@@ -38,7 +38,7 @@ pairs-good acc (p ∷ ps) e r (a, (b, (c, h))) =
       record {
         pair = record { key = (short-in (p .key) (f .0), a); value = (short-in (p .value) (g .0), b) };
         new = c;
-        room = leb-is (suc (linear-length acc + pair-length p)) 65534 (omega arith);
+        room = leb-is (suc (linear-length acc + pair-length p)) pairs-limit (omega arith);
       },
       pairs-good (acc ++ (p ∷ [])) ps (g .1) (omega arith) h,
     )
@@ -94,16 +94,16 @@ pub pairs-then : (ps : List Pair) → Holds (pairs-checks ps) → (length ps < 6
 unfolding pairs-checks sum
 pairs-then ps (n, (f, h)) =
     let few = is-leb (length ps) 65535 n in
-    let (each-holds, room) = split (each pair-checks [] ps) (check 13 (ltb (linear-length ps) 65534) ∷ []) h in
-    let r : linear-length ps < 65534 = is-leb (suc (linear-length ps)) 65534 (room .0) in
+    let (each-holds, room) = split (each pair-checks [] ps) (check 13 (ltb (linear-length ps) pairs-limit) ∷ []) h in
+    let r : linear-length ps < pairs-limit = is-leb (suc (linear-length ps)) pairs-limit (room .0) in
     (omega arith, pairs-good [] ps f (omega arith) each-holds)
 
 pub then-pairs : (ps : List Pair) → length ps < 65536 → Oks NextOk [] ps → Holds (pairs-checks ps)
 unfolding pairs-checks sum
 then-pairs ps few o =
     let p = pairs-pass [] ps o in
-    let room : linear-length [] + linear-length ps < 65534 = room-all [] ps (omega arith) o in
-    (leb-is (length ps) 65535 (omega arith), (p .0, join (each pair-checks [] ps) (check 13 (ltb (linear-length ps) 65534) ∷ []) (p .1) (leb-is (suc (linear-length ps)) 65534 (omega arith), tt)))
+    let room : linear-length [] + linear-length ps < pairs-limit = room-all [] ps (omega arith) o in
+    (leb-is (length ps) 65535 (omega arith), (p .0, join (each pair-checks [] ps) (check 13 (ltb (linear-length ps) pairs-limit) ∷ []) (p .1) (leb-is (suc (linear-length ps)) pairs-limit (omega arith), tt)))
 
 pub keys-then : (ks : List EncryptedDataKey) → Holds (keys-checks ks) → (length ks < 65536) × Oks KeyOk [] ks
 unfolding keys-checks

@@ -11,7 +11,7 @@ use Rattle.format.specs.Read.{_>>=_, _>>_, return, test, repeat, framed}
 use Rattle.format.specs.Serialize.{Bytes, Part, write-uint16, write-short-length-seq, entry-length, images, sum}
 use Rattle.format.specs.Utf8.{valid-utf8-seq}
 use Rattle.format.specs.Fields.{Pair, PairAt, pair-of}
-use Rattle.format.specs.Context.{seen, pair-length, linear-length, Form, today, old, write-aad-pair, write-aad-pairs, write-aad, write-expanded-aad-section, write-aad-section, section-in, Mode, tolerant, strict, is-strict, read-text, read-aad-pair, read-next-aad-pair, read-aad, read-aad-of, read-aad-section}
+use Rattle.format.specs.Context.{seen, pair-length, linear-length, pairs-limit, Form, today, old, write-aad-pair, write-aad-pairs, write-aad, write-expanded-aad-section, write-aad-section, section-in, Mode, tolerant, strict, is-strict, read-text, read-aad-pair, read-next-aad-pair, read-aad, read-aad-of, read-aad-section}
 use Rattle.format.specs.Sections.{Allowed}
 use Rattle.format.proofs.Tests.{is-leb, is-eqb, neqb-is}
 use Rattle.format.proofs.Exact.{Exact, seq-exact, check-exact, give-exact, revalue, framed-exact, many-exact, Oks, puts}
@@ -49,7 +49,7 @@ pair-exact =
 pub record NextOk (acc : List Pair) (p : Pair) : Type 0 where
   pub pair : PairOk p
   pub new : not (seen (p .key) acc) ≡ true
-  pub room : ltb (linear-length acc + pair-length p) 65534 ≡ true
+  pub room : ltb (linear-length acc + pair-length p) pairs-limit ≡ true
 
 next-exact : (acc : List PairAt) → Exact (read-next-aad-pair acc) (NextOk (map pair-of acc)) write-aad-pair pair-at
 unfolding read-next-aad-pair
@@ -83,13 +83,13 @@ linear-length-snoc [] p = omega arith
 linear-length-snoc (q ∷ acc) p = let h = linear-length-snoc acc p in omega arith
 
 -- 13 at each pair is 13 at the last
-pub room-all : (acc ps : List Pair) → linear-length acc < 65534 → Oks NextOk acc ps → linear-length acc + linear-length ps < 65534
+pub room-all : (acc ps : List Pair) → linear-length acc < pairs-limit → Oks NextOk acc ps → linear-length acc + linear-length ps < pairs-limit
 unfolding sum
 room-all acc [] h o = omega arith
 room-all acc (p ∷ ps) h o =
-    let k : linear-length acc + pair-length p < 65534 = is-leb _ _ (o .0 .room) in
+    let k : linear-length acc + pair-length p < pairs-limit = is-leb _ _ (o .0 .room) in
     let e = linear-length-snoc acc p in
-    let z : linear-length (acc ++ (p ∷ [])) + linear-length ps < 65534 = room-all (acc ++ (p ∷ [])) ps (omega arith) (o .1) in
+    let z : linear-length (acc ++ (p ∷ [])) + linear-length ps < pairs-limit = room-all (acc ++ (p ∷ [])) ps (omega arith) (o .1) in
     omega arith
 
 -- the count and the pairs, in a section of length n
@@ -183,7 +183,7 @@ from-pairs : (mode : Mode) (p : Pair) (ps : List Pair) → length (p ∷ ps) < 6
 unfolding From OfOk of-bytes write-expanded-aad-section puts sum
 from-pairs mode p ps few each =
     let n = 2 + linear-length (p ∷ ps) in
-    let h : linear-length (p ∷ ps) < 65534 = (let z = room-all [] (p ∷ ps) (omega arith) each in omega arith) in
+    let h : linear-length (p ∷ ps) < pairs-limit = (let z = room-all [] (p ∷ ps) (omega arith) each in omega arith) in
     let e₀ : eqb n 0 ≡ false = neqb-is n 0 (omega arith) in
     let e₂ : eqb n 2 ≡ false = neqb-is n 2 (omega arith) in (
       (n, p ∷ ps),

@@ -9,7 +9,7 @@ use lib.Dec.{eqb}
 use lib.ListN.{length}
 use Rattle.format.specs.Read.{_>>=_, _>>_, return, test}
 use Rattle.format.specs.Serialize.{Part, write-uint16, write-uint32}
-use Rattle.format.specs.Shared.{one-or-two, known, of-version, read-message-format-version, read-esdk-suite-id, read-content-type}
+use Rattle.format.specs.Shared.{one-or-two, known, of-version, id-length, iv-length, commit-key-length, read-message-format-version, read-esdk-suite-id, read-content-type}
 use Rattle.format.specs.Body.{Which, asked, Opening, read-opening-of, read-opening, Closing, read-closing-of, read-closing, write-opening-of, write-closing-of}
 use Rattle.format.proofs.Tests.{is-eqb, eqb-is}
 use Rattle.format.proofs.Exact.{Exact, seq-exact, check-exact, give-exact, revalue}
@@ -72,7 +72,7 @@ pub record Rest : Type 0 where
 pub record RestOk (v1 : Bool) (r : Rest) : Type 0 where
   pub t5 : r .messageType ≡ cond v1 0x80 0
   pub suite : SuiteOk (cond v1 1 2) (r .suite)
-  pub sized : length (r .messageId) ≡ cond v1 16 32
+  pub sized : length (r .messageId) ≡ cond v1 (id-length 1) (id-length 2)
 
 abbrev rest-bytes : Bool → Rest → List ℕ
 rest-bytes v1 r = write-opening-of v1 (r .messageType) (r .suite) (r .messageId)
@@ -84,7 +84,7 @@ rest-exact : (v1 : Bool) → Exact (read-opening-of v1) (RestOk v1) (rest-bytes 
 unfolding read-opening-of write-opening-of
 rest-exact true =
     revalue (RestOk true) (rest-bytes true) (rest-at true)
-    (seq-exact _ uint8-exact λ s type. check-exact 5 _ (seq-exact _ (suite-exact 1) λ s suite. seq-exact _ (read-exact 16) λ s id. give-exact _))
+    (seq-exact _ uint8-exact λ s type. check-exact 5 _ (seq-exact _ (suite-exact 1) λ s suite. seq-exact _ (read-exact (id-length 1)) λ s id. give-exact _))
     (λ w o.
     (record { messageType = w .0; suite = w .1 .0; messageId = w .1 .1 .0 }, record { t5 = is-eqb _ _ (o .1 .0); suite = o .1 .1 .0; sized = o .1 .1 .1 .0 }, simp append-nil, λ s. rw (length-uint16, add-assoc s 1 2) refl))
     (λ r o.
@@ -92,7 +92,7 @@ rest-exact true =
     ((r .messageType, (r .suite, (r .messageId, tt))), (omega arith, (eqb-is _ _ e, (o .suite, (o .sized, tt)))), simp append-nil, λ s. rw (length-uint16, add-assoc s 1 2) refl))
 rest-exact false =
     revalue (RestOk false) (rest-bytes false) (rest-at false)
-    (seq-exact _ (suite-exact 2) λ s suite. seq-exact _ (read-exact 32) λ s id. give-exact _)
+    (seq-exact _ (suite-exact 2) λ s suite. seq-exact _ (read-exact (id-length 2)) λ s id. give-exact _)
     (λ w o. (record { messageType = 0; suite = w .0; messageId = w .1 .0 }, record { t5 = refl; suite = o .0; sized = o .1 .0 }, simp append-nil, λ s. rw length-uint16 refl))
     (λ r o. ((r .suite, (r .messageId, tt)), (o .suite, (o .sized, tt)), simp append-nil, λ s. rw (length-uint16, o .t5) refl))
 
@@ -137,9 +137,9 @@ pub record End : Type 0 where
 
 pub record EndOk (v1 : Bool) (e : End) : Type 0 where
   pub t17 : one-or-two (e .contentType) ≡ true
-  pub t19 : e .headerIvLength ≡ cond v1 12 0
+  pub t19 : e .headerIvLength ≡ cond v1 iv-length 0
   pub wide : e .frameLength < 4294967296
-  pub sized : length (e .suiteData) ≡ cond v1 0 32
+  pub sized : length (e .suiteData) ≡ cond v1 0 commit-key-length
 
 abbrev pub end-bytes : Bool → End → List ℕ
 end-bytes v1 e = (e .contentType ∷ []) ++ write-closing-of v1 (e .headerIvLength) (e .frameLength) (e .suiteData)
@@ -164,7 +164,7 @@ closing-exact true =
       λ s. refl,
     ))
     (λ e o.
-    let iv : e .headerIvLength ≡ 12 = o .t19 in (
+    let iv : e .headerIvLength ≡ iv-length = o .t19 in (
       (e .contentType, (0, (e .headerIvLength, (e .frameLength, tt)))),
       (o .t17, (omega arith, (refl, (omega arith, (eqb-is _ _ iv, (o .wide, tt)))))),
       rw (append-nil (write-uint32 (e .frameLength))) refl,
@@ -172,7 +172,7 @@ closing-exact true =
     ))
 closing-exact false =
     revalue (EndOk false) (end-bytes false) (end-at false)
-    (seq-exact _ content-exact λ s content. seq-exact _ uint32-exact λ s frame. seq-exact _ (read-exact 32) λ s commit. give-exact _)
+    (seq-exact _ content-exact λ s content. seq-exact _ uint32-exact λ s frame. seq-exact _ (read-exact commit-key-length) λ s commit. give-exact _)
     (λ w o. (
       record { contentType = w .0; headerIvLength = 0; frameLength = w .1 .0; suiteData = w .1 .1 .0 },
       record { t17 = o .0; t19 = refl; wide = o .1 .0; sized = o .1 .1 .0 },

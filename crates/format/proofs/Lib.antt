@@ -24,4 +24,5 @@ pub mod Demand3
 pub mod Suites
 pub mod Sections
 pub mod Grammar
+pub mod Lengths
 pub mod Pinned

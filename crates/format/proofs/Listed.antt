@@ -132,7 +132,7 @@ unfolding read-text
 text-listed k = bind-listed entry-listed (λ e. then-listed (test-listed k _) (return-listed _))
 
 -- the context section
-pair-listed : Listed (10 ∷ 11 ∷ []) read-aad-pair
+pub pair-listed : Listed (10 ∷ 11 ∷ []) read-aad-pair
 unfolding read-aad-pair
 pair-listed = bind-listed (text-listed 10) (λ k. bind-listed (text-listed 11) (λ v. return-listed _))
 
@@ -203,8 +203,8 @@ suite-listed version = bind-listed uint16-listed (λ x. then-listed (test-listed
 
 rest-listed : (v1 : Bool) → Listed (5 ∷ 6 ∷ 7 ∷ []) (read-opening-of v1)
 unfolding read-opening-of
-rest-listed true = bind-listed uint8-listed (λ t. then-listed (test-listed 5 _) (bind-listed (suite-listed 1) (λ x. bind-listed (read-listed 16) (λ id. return-listed _))))
-rest-listed false = also 5 (bind-listed (suite-listed 2) (λ x. bind-listed (read-listed 32) (λ id. return-listed _)))
+rest-listed true = bind-listed uint8-listed (λ t. then-listed (test-listed 5 _) (bind-listed (suite-listed 1) (λ x. bind-listed (read-listed _) (λ id. return-listed _))))
+rest-listed false = also 5 (bind-listed (suite-listed 2) (λ x. bind-listed (read-listed _) (λ id. return-listed _)))
 
 version-listed : Listed (3 ∷ []) read-message-format-version
 unfolding read-message-format-version
@@ -224,7 +224,7 @@ closing-of-listed : (v1 : Bool) (content : ℕ) → Listed (18 ∷ 19 ∷ []) (r
 unfolding read-closing-of
 closing-of-listed true content =
     bind-listed uint32-listed (λ r. then-listed (test-listed 18 _) (bind-listed uint8-listed (λ i. then-listed (test-listed 19 _) (bind-listed uint32-listed (λ f. return-listed _)))))
-closing-of-listed false content = also 18 (also 19 (bind-listed uint32-listed (λ f. bind-listed (read-listed 32) (λ x. return-listed _))))
+closing-of-listed false content = also 18 (also 19 (bind-listed uint32-listed (λ f. bind-listed (read-listed _) (λ x. return-listed _))))
 
 closing-listed : (v1 : Bool) → Listed (17 ∷ 18 ∷ 19 ∷ []) (read-closing v1)
 unfolding read-closing
@@ -259,8 +259,8 @@ body-listed q = bind-listed (opening-listed (q .which)) (λ o. bind-listed (sect
 -- an authentication record
 auth-of-listed : (v1 : Bool) → Listed [] (read-header-auth-tag-of v1)
 unfolding read-header-auth-tag-of
-auth-of-listed true = bind-listed (read-listed 12) (λ iv. bind-listed (read-listed 16) (λ tag. return-listed _))
-auth-of-listed false = bind-listed (read-listed 16) (λ tag. return-listed _)
+auth-of-listed true = bind-listed (read-listed _) (λ iv. bind-listed (read-listed _) (λ tag. return-listed _))
+auth-of-listed false = bind-listed (read-listed _) (λ tag. return-listed _)
 
 auth-listed : (suite : ℕ) → Listed (6 ∷ []) (read-header-auth-tag suite)
 unfolding read-header-auth-tag

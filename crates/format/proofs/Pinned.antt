@@ -20,6 +20,7 @@ use Rattle.format.proofs.Firsts.{both}
 use Rattle.format.proofs.Grammar.{valid-octets, octets-valid}
 use Rattle.format.proofs.Suites.{in-a-row, row-of, no-third, eleven}
 use Rattle.format.proofs.Context.{length-pairs}
+use Rattle.format.proofs.Lengths.{lengths}
 use Rattle.format.proofs.Find.{same-equal, equal-same, seen-has, has-seen}
 
 or-cases : (a b : Bool) → (a || b) ≡ true → (a ≡ true) ⊎ (b ≡ true)
@@ -108,6 +109,7 @@ pinned =
       maximum = λ n max. record { then-holds = is-leb n max; holds-then = leb-is n max };
       no-maximum = λ n. refl;
       pairs-take = length-pairs;
+      lengths = lengths;
       pairs-join = pairs-join;
       keys-join = keys-join;
     }

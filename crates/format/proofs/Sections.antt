@@ -136,9 +136,9 @@ keys-law max room m s hb = record { only = only; all = all }
 
 -- the authentication record; true: version 1
 record AuthOk (v1 : Bool) (a : HeaderAuth) : Type 0 where
-  iv : length (a .headerIv) ≡ 12
-  tag : length (a .headerAuthTag) ≡ 16
-  zero : v1 ≡ false → a .headerIv ≡ zeros 12
+  iv : length (a .headerIv) ≡ iv-length
+  tag : length (a .headerAuthTag) ≡ tag-length
+  zero : v1 ≡ false → a .headerIv ≡ zeros iv-length
 
 abbrev auth-bytes : Bool → HeaderAuth → List ℕ
 auth-bytes v1 a = cond v1 (a .headerIv ++ a .headerAuthTag) (a .headerAuthTag)
@@ -150,20 +150,20 @@ auth-of-exact : (v1 : Bool) → Exact (read-header-auth-tag-of v1) (AuthOk v1) (
 unfolding read-header-auth-tag-of zeros
 auth-of-exact true =
     revalue (AuthOk true) (auth-bytes true) as-it-is
-    (seq-exact _ (read-exact 12) λ s iv. seq-exact _ (read-exact 16) λ t tag. give-exact _)
+    (seq-exact _ (read-exact iv-length) λ s iv. seq-exact _ (read-exact tag-length) λ t tag. give-exact _)
     (λ w o. (record { headerIv = w .0; headerAuthTag = w .1 .0 }, record { iv = o .0; tag = o .1 .0; zero = λ e. (let z : _≡_ {A = ℕ} 0 1 = cc in absurd (omega arith)) }, simp append-nil, λ s. refl))
     (λ a o. ((a .headerIv, (a .headerAuthTag, tt)), (o .iv, (o .tag, tt)), simp append-nil, λ s. refl))
 auth-of-exact false =
     revalue (AuthOk false) (auth-bytes false) as-it-is
-    (seq-exact _ (read-exact 16) λ s tag. give-exact _)
-    (λ w o. (record { headerIv = replicate 12 0; headerAuthTag = w .0 }, record { iv = refl; tag = o .0; zero = λ e. refl }, append-nil _, λ s. refl))
+    (seq-exact _ (read-exact tag-length) λ s tag. give-exact _)
+    (λ w o. (record { headerIv = replicate iv-length 0; headerAuthTag = w .0 }, record { iv = refl; tag = o .0; zero = λ e. refl }, append-nil _, λ s. refl))
     (λ a o. ((a .headerAuthTag, tt), (o .tag, tt), sym (append-nil _), λ s. ap (λ iv. record { headerIv = iv; headerAuthTag = a .headerAuthTag }) (o .zero refl)))
 
 auth-exact : (suite : ℕ) → Exact (read-header-auth-tag suite) (λ a. (known suite ≡ true) × AuthOk (eqb (suite-version suite) 1) a) (auth-bytes (eqb (suite-version suite) 1)) as-it-is
 unfolding read-header-auth-tag
 auth-exact suite = check-exact 6 _ (auth-of-exact _)
 
-auth-not-empty : (v1 : Bool) (a : HeaderAuth) → length (a .headerAuthTag) ≡ 16 → 0 < length (auth-bytes v1 a)
+auth-not-empty : (v1 : Bool) (a : HeaderAuth) → length (a .headerAuthTag) ≡ tag-length → 0 < length (auth-bytes v1 a)
 auth-not-empty true a e = simp length-append (omega arith)
 auth-not-empty false a e = omega arith
 

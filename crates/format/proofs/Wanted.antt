@@ -8,7 +8,7 @@ use lib.Dec.{leb, eqb}
 use lib.ListN.{length, drop, length-drop}
 use Rattle.format.specs.Read.{ReadResult, success, more-needed, error, Reader, go-on, _>>=_, _>>_, return, test, repeat, framed, Answer, refused, answer, operation}
 use Rattle.format.specs.Serialize.{Bytes, Part, same-bytes, read, read-uint, read-uint8, read-uint16, read-uint32, read-short-length-seq}
-use Rattle.format.specs.Shared.{read-message-format-version, read-esdk-suite-id, read-content-type}
+use Rattle.format.specs.Shared.{id-length, iv-length, tag-length, commit-key-length, read-message-format-version, read-esdk-suite-id, read-content-type}
 use Rattle.format.specs.Fields.{PairAt}
 use Rattle.format.specs.Context.{Mode, tolerant, read-text, read-aad-pair, read-next-aad-pair, read-aad, read-aad-of, read-aad-section, read-aad-section-into, look-up, find-value}
 use Rattle.format.specs.Keys.{Max, read-encrypted-data-key, read-encrypted-data-keys-section, read-encrypted-data-keys-section-into}
@@ -182,8 +182,8 @@ suite-wants version = bind-wants uint16-wants (λ x g. then-wants (test-wants 6 
 rest-wants : (v1 : Bool) → Wants Any (read-opening-of v1)
 unfolding read-opening-of
 rest-wants true =
-    bind-wants uint8-wants (λ t g. then-wants (test-wants 5 _) (bind-wants (suite-wants 1) (λ x g. bind-wants (read-wants 16 (omega arith)) (λ id g. return-wants _))))
-rest-wants false = bind-wants (suite-wants 2) (λ x g. bind-wants (read-wants 32 (omega arith)) (λ id g. return-wants _))
+    bind-wants uint8-wants (λ t g. then-wants (test-wants 5 _) (bind-wants (suite-wants 1) (λ x g. bind-wants (read-wants (id-length 1) (omega arith)) (λ id g. return-wants _))))
+rest-wants false = bind-wants (suite-wants 2) (λ x g. bind-wants (read-wants (id-length 2) (omega arith)) (λ id g. return-wants _))
 
 version-wants : Wants Any read-message-format-version
 unfolding read-message-format-version
@@ -201,7 +201,7 @@ closing-of-wants : (v1 : Bool) (content : ℕ) → Wants Any (read-closing-of v1
 unfolding read-closing-of
 closing-of-wants true content =
     bind-wants uint32-wants (λ r g. then-wants (test-wants 18 _) (bind-wants uint8-wants (λ i g. then-wants (test-wants 19 _) (bind-wants uint32-wants (λ f g. return-wants _)))))
-closing-of-wants false content = bind-wants uint32-wants (λ f g. bind-wants (read-wants 32 (omega arith)) (λ x g. return-wants _))
+closing-of-wants false content = bind-wants uint32-wants (λ f g. bind-wants (read-wants commit-key-length (omega arith)) (λ x g. return-wants _))
 
 closing-wants : (v1 : Bool) → Wants Any (read-closing v1)
 unfolding read-closing
@@ -220,8 +220,8 @@ body-wants q = bind-wants (opening-wants (q .which)) (λ o g. bind-wants (sectio
 -- an authentication record
 auth-of-wants : (v1 : Bool) → Wants Any (read-header-auth-tag-of v1)
 unfolding read-header-auth-tag-of
-auth-of-wants true = bind-wants (read-wants 12 (omega arith)) (λ iv g. bind-wants (read-wants 16 (omega arith)) (λ tag g. return-wants _))
-auth-of-wants false = bind-wants (read-wants 16 (omega arith)) (λ tag g. return-wants _)
+auth-of-wants true = bind-wants (read-wants iv-length (omega arith)) (λ iv g. bind-wants (read-wants tag-length (omega arith)) (λ tag g. return-wants _))
+auth-of-wants false = bind-wants (read-wants tag-length (omega arith)) (λ tag g. return-wants _)
 
 auth-wants : (suite : ℕ) → Wants Any (read-header-auth-tag suite)
 unfolding read-header-auth-tag

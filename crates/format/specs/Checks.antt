@@ -10,7 +10,7 @@ use Rattle.format.specs.Serialize.{images, every}
 use Rattle.format.specs.Utf8.{valid-utf8-seq}
 use Rattle.format.specs.Shared.{by, one-or-two, known, of-version, id-length, iv-length, tag-length, commit-key-length, frame-fits}
 use Rattle.format.specs.Fields.{Pair, EncryptedDataKey, Fields, pair-parts, key-parts}
-use Rattle.format.specs.Context.{seen, linear-length}
+use Rattle.format.specs.Context.{seen, linear-length, pairs-limit}
 
 -- a refusal's number, and the test that it answers for
 pub record Check : Type 0 where
@@ -46,7 +46,7 @@ key-checks done k = check 16 (valid-utf8-seq (k .keyProviderId)) ∷ []
 
 -- write a context section, without 26 and 28
 unfoldable pub pairs-checks : List Pair → List Check
-pairs-checks ps = count-checks (length ps) (images pair-parts ps) ++ (each pair-checks [] ps ++ (check 13 (ltb (linear-length ps) 65534) ∷ []))
+pairs-checks ps = count-checks (length ps) (images pair-parts ps) ++ (each pair-checks [] ps ++ (check 13 (ltb (linear-length ps) pairs-limit) ∷ []))
 
 -- write a key section, without 26 and 28
 unfoldable pub keys-checks : List EncryptedDataKey → List Check

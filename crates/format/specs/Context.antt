@@ -21,6 +21,10 @@ pair-length p = entry-length (p .key) + entry-length (p .value)
 abbrev pub linear-length : List Pair → ℕ
 linear-length = sum pair-length
 
+-- refusal 13: what pairs take stays below this, so that the section's length, two bytes more, fits its two bytes
+abbrev pub pairs-limit : ℕ
+pairs-limit = 65534
+
 -- how an empty context is written: today 00 00, by the old writer 00 02 00 00
 pub data Form : Type 0 where
   today old : Form
@@ -75,7 +79,7 @@ unfoldable pub read-next-aad-pair : List PairAt → Reader PairAt
 read-next-aad-pair acc = do
   p ← read-aad-pair
   test 12 (not (seen (p .key .bytes) (map pair-of acc)))
-  test 13 (ltb (linear-length (map pair-of acc) + pair-length (pair-of p)) 65534)
+  test 13 (ltb (linear-length (map pair-of acc) + pair-length (pair-of p)) pairs-limit)
   return p
 
 -- ReadAAD, of a section whose length n is not 0

@@ -14,4 +14,5 @@ pub mod First
 pub mod Refusals
 pub mod Demand3
 pub mod Sections
+pub mod Lengths
 pub mod Pinned

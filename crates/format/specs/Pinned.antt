@@ -14,6 +14,7 @@ use Rattle.format.specs.Fields.{Pair, PairAt, pair-of, EncryptedDataKey}
 use Rattle.format.specs.Context.{seen, linear-length, write-aad-pairs}
 use Rattle.format.specs.Keys.{Max, no-max, at-most, within, write-encrypted-data-keys}
 use Rattle.format.specs.Demand3.{Has}
+use Rattle.format.specs.Lengths.{Lengths}
 
 -- a row's ranges, byte by byte
 pub data Match : List Range → List ℕ → Type 0 where
@@ -58,6 +59,8 @@ pub record Pinned : Type 0 where
   pub no-maximum : (n : ℕ) → within n no-max ≡ true
   -- what pairs take is what their entries take
   pub pairs-take : (ps : List Pair) → length (write-aad-pairs ps) ≡ linear-length ps
+  -- the lengths
+  pub lengths : Lengths
   -- and the bytes of joined lists are those of each, joined
   pub pairs-join : (ps qs : List Pair) → write-aad-pairs (ps ++ qs) ≡ write-aad-pairs ps ++ write-aad-pairs qs
   pub keys-join : (ks js : List EncryptedDataKey) → write-encrypted-data-keys (ks ++ js) ≡ write-encrypted-data-keys ks ++ write-encrypted-data-keys js
