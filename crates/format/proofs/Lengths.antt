@@ -26,7 +26,8 @@ use Rattle.format.proofs.Context.{linear-length-snoc}
 use Rattle.format.proofs.Ends.{Top, TopOk, top-bytes, top-at, opening-exact, EndOk}
 use Rattle.format.proofs.Body.{Sent, BodyOk, top-of, end-of, body-exact}
 use Rattle.format.proofs.Accepts.{Good, good}
-use Rattle.format.proofs.Listed.{Fine, pair-listed}
+use Rattle.format.proofs.ListedLaws.{Fine}
+use Rattle.format.proofs.Listed.{pair-listed}
 use Rattle.format.proofs.Messages.{accepted-took}
 use Rattle.format.proofs.Strict.{reached}
 use Rattle.format.proofs.Find.{seen-has, has-seen}

@@ -12,6 +12,7 @@ pub mod Lines
 pub mod First
 pub mod FirstBody
 pub mod Writers
+pub mod ListedLaws
 pub mod Listed
 pub mod Wanted
 pub mod Held

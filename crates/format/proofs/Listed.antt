@@ -15,96 +15,11 @@ use Rattle.format.specs.Context.{Mode, tolerant, strict, read-text, read
 use Rattle.format.specs.Keys.{Max, read-encrypted-data-key, read-encrypted-data-keys-section, read-encrypted-data-keys-section-into}
 use Rattle.format.specs.Body.{Which, either, v1-only, v2-only, read-opening-of, read-opening, read-closing-of, read-closing, Opening, Request, after-context, after-opening, read-body}
 use Rattle.format.specs.Auth.{read-header-auth-tag-of, read-header-auth-tag}
-use Rattle.format.specs.Refusals.{section-refusals, context-refusals, find-refusals, opening-refusals, closing-refusals, keys-refusals, body-refusals, auth-refusals, Refusal, RefusesBy, Refusals}
-use Rattle.format.proofs.Tests.{is-leb, is-nleb, eqb-is}
-use Rattle.format.proofs.Exact.{framed-fits, framed-short}
-use Rattle.format.proofs.Serialize.{read-fits, read-short}
+use Rattle.format.specs.Refusals.{section-refusals, context-refusals, find-refusals, opening-refusals, reserved-refusals, frame-refusals, closing-refusals, keys-refusals, body-refusals, auth-refusals, Refusal, RefusesBy, Refusals}
+use Rattle.format.proofs.Tests.{eqb-is, is-eqb}
+use Rattle.format.proofs.ListedLaws.{Fine, Listed, also, bind-listed, then-listed, return-listed, sure-listed, test-listed, read-listed, repeat-listed, framed-listed, Gives, return-gives, bind-gives, passed-listed, passed-gives, given-listed}
 use Rattle.format.proofs.Firsts.{both}
 use Rattle.format.proofs.Messages.{cases}
-
--- of a reader that had the bytes up to the place n: where it succeeds those behind its tail are left, what it wants lies
--- beyond n, and any other refusal is of the list
-abbrev pub Fine : {A : Type 0} → List ℕ → ℕ → ReadResult A → Type 0
-Fine ks n (success a l t) = t + length l ≡ n
-Fine ks n (more-needed p) = n < p
-Fine ks n (error k) = List·Memᴰ k ks
-
-pub record Listed {A : Type 0} (ks : List ℕ) (r : Reader A) : Type 0 where
-  pub fine : (l : List ℕ) (s : ℕ) → Fine ks (s + length l) (r l s)
-
-module _ {A : Type 0} where
-  more : (ks js : List ℕ) → ((k : ℕ) → List·Memᴰ k ks → List·Memᴰ k js) → (n : ℕ) (x : ReadResult A) → Fine ks n x → Fine js n x
-  more ks js f n (success a l t) h = h
-  more ks js f n (more-needed p) h = h
-  more ks js f n (error k) h = f k h
-
-  listed-as : {ks js : List ℕ} {r : Reader A} → ks ≡ js → Listed ks r → Listed js r
-  listed-as e h = rw e at h
-
-  pub also : (j : ℕ) {ks : List ℕ} {r : Reader A} → Listed ks r → Listed (j ∷ ks) r
-  also j {ks} {r} h = record { fine = λ l s. more ks (j ∷ ks) (λ k z. List·Memᴰ·tail z) (s + length l) (r l s) (h .fine l s) }
-
-module _ {A B : Type 0} where
-  goes-on : (ks js : List ℕ) (f : A → Reader B) → ((a : A) → Listed js (f a)) → (n : ℕ) (x : ReadResult A) → Fine ks n x → Fine (ks ++ js) n (go-on x f)
-  goes-on ks js f hf n (success a l t) h = more js (ks ++ js) (λ k z. Memᴰ·append-right ks z) n (f a l t) (rw h at (hf a .fine l t))
-  goes-on ks js f hf n (more-needed p) h = h
-  goes-on ks js f hf n (error k) h = Memᴰ·append-left js h
-
-  pub bind-listed : {ks js : List ℕ} {r : Reader A} {f : A → Reader B} → Listed ks r → ((a : A) → Listed js (f a)) → Listed (ks ++ js) (r >>= f)
-  unfolding _>>=_
-  bind-listed {ks} {js} {r} {f} hr hf = record { fine = λ l s. goes-on ks js f hf (s + length l) (r l s) (hr .fine l s) }
-
-  pub then-listed : {ks js : List ℕ} {r : Reader A} {q : Reader B} → Listed ks r → Listed js q → Listed (ks ++ js) (r >> q)
-  unfolding _>>_
-  then-listed {ks} {js} {r} {q} hr hq = record { fine = λ l s. goes-on ks js (λ a. q) (λ a. hq) (s + length l) (r l s) (hr .fine l s) }
-
-pub return-listed : {A : Type 0} (a : A) → Listed [] (return a)
-unfolding return
-return-listed a = record { fine = λ l s. refl }
-
--- a test that never fails
-pub sure-listed : (k : ℕ) {b : Bool} → b ≡ true → Listed [] (test k b)
-unfolding test
-sure-listed k e = rw e (record { fine = λ l s. refl })
-
-pub test-listed : (k : ℕ) (b : Bool) → Listed (k ∷ []) (test k b)
-unfolding test
-test-listed k true = record { fine = λ l s. refl }
-test-listed k false = record { fine = λ l s. List·Memᴰ·head refl }
-
-pub read-listed : (n : ℕ) → Listed [] (read n)
-read-listed n = record { fine = λ l s. go l s (leb n (length l)) refl }
-  where
-    go : (l : List ℕ) (s : ℕ) (b : Bool) → leb n (length l) ≡ b → Fine [] (s + length l) (read n l s)
-    go l s true e = let h : n ≤ length l = is-leb _ _ e in rw (read-fits n l s h) (simp length-drop (omega arith))
-    go l s false e = let h : length l < n = is-nleb _ _ e in rw (read-short n l s h) (omega arith)
-
-module _ {A : Type 0} where
-  -- a list of refusals behind itself
-  once : (ks : List ℕ) (n : ℕ) (x : ReadResult A) → Fine (ks ++ ks) n x → Fine ks n x
-  once ks n x h = more (ks ++ ks) ks (λ k z. ⊎-elim (λ w. w) (λ w. w) (List·Memᴰ·append-cases ks z)) n x h
-
-module _ {A : Type 0} where
-  pub repeat-listed : (n : ℕ) {ks : List ℕ} {step : List A → Reader A} → ((acc : List A) → Listed ks (step acc)) → (acc : List A) → Listed ks (repeat n step acc)
-  unfolding repeat return
-  repeat-listed zero h acc = record { fine = λ l s. refl }
-  repeat-listed (suc n) {ks} {step} h acc =
-      record { fine = λ l s. once ks (s + length l) (repeat (suc n) step acc l s) (bind-listed (h acc) (λ a. repeat-listed n h (acc ++ (a ∷ []))) .fine l s) }
-
-  end-listed : (s n k : ℕ) (a : A) → Listed (k ∷ []) (λ l′ t. go-on (test k (eqb t (s + n)) l′ t) (λ u. return a))
-  unfolding test return
-  end-listed s n k a = record { fine = λ l t. go (eqb t (s + n)) l t }
-    where
-      go : (b : Bool) (l : List ℕ) (t : ℕ) → Fine (k ∷ []) (t + length l) (go-on (test k b l t) (λ u. return a))
-      go true l t = refl
-      go false l t = List·Memᴰ·head refl
-
-  pub framed-listed : (n k : ℕ) {ks : List ℕ} {r : Reader A} → Listed ks r → Listed (ks ++ (k ∷ [])) (framed n k r)
-  framed-listed n k {ks} {r} hr = record { fine = λ l s. go l s (leb n (length l)) refl }
-    where
-      go : (l : List ℕ) (s : ℕ) (b : Bool) → leb n (length l) ≡ b → Fine (ks ++ (k ∷ [])) (s + length l) (framed n k r l s)
-      go l s true e = rw (framed-fits n k r l s (is-leb _ _ e)) (bind-listed hr (end-listed s n k) .fine l s)
-      go l s false e = let h : length l < n = is-nleb _ _ e in rw (framed-short n k r l s h) (omega arith)
 
 -- the leaves
 uint-listed : (width : ℕ) → Listed [] (read-uint width)
@@ -201,60 +116,81 @@ suite-listed : (version : ℕ) → Listed (6 ∷ 7 ∷ []) (read-esdk-suite-id v
 unfolding read-esdk-suite-id
 suite-listed version = bind-listed uint16-listed (λ x. then-listed (test-listed 6 _) (then-listed (test-listed 7 _) (return-listed _)))
 
+-- after the version byte, in version 2 and in either
+second-listed : Listed (6 ∷ 7 ∷ []) (read-opening-of false)
+unfolding read-opening-of
+second-listed = bind-listed (suite-listed 2) (λ x. bind-listed (read-listed _) (λ id. return-listed _))
+
 rest-listed : (v1 : Bool) → Listed (5 ∷ 6 ∷ 7 ∷ []) (read-opening-of v1)
 unfolding read-opening-of
 rest-listed true = bind-listed uint8-listed (λ t. then-listed (test-listed 5 _) (bind-listed (suite-listed 1) (λ x. bind-listed (read-listed _) (λ id. return-listed _))))
-rest-listed false = also 5 (bind-listed (suite-listed 2) (λ x. bind-listed (read-listed _) (λ id. return-listed _)))
+rest-listed false = also 5 second-listed
 
 version-listed : Listed (3 ∷ []) read-message-format-version
 unfolding read-message-format-version
 version-listed = bind-listed uint8-listed (λ v. then-listed (test-listed 3 _) (return-listed _))
 
+not-one : (v : ℕ) → eqb v 2 ≡ true → eqb v 1 ≡ false
+not-one v e = rw (is-eqb v 2 e) refl
+
 opening-listed : (which : Which) → Listed (opening-refusals which) (read-opening which)
 unfolding read-opening opening-refusals
 opening-listed either = bind-listed version-listed (λ v. then-listed (sure-listed 4 refl) (rest-listed (eqb v 1)))
 opening-listed v1-only = bind-listed version-listed (λ v. then-listed (test-listed 4 _) (rest-listed (eqb v 1)))
-opening-listed v2-only = bind-listed version-listed (λ v. then-listed (test-listed 4 _) (rest-listed (eqb v 1)))
+opening-listed v2-only = bind-listed version-listed (λ v. passed-listed 4 (eqb v 2) (λ e. rw (not-one v e) second-listed))
+
+-- what the reader of version 2 alone opens is of version 2
+abbrev Opened : Which → Opening → Type 0
+Opened either o = Unit {0}
+Opened v1-only o = Unit {0}
+Opened v2-only o = eqb (o .version) 1 ≡ false
+
+second-gives : Gives (Opened v2-only) (read-opening-of false)
+unfolding read-opening-of
+second-gives = bind-gives _ (λ x. bind-gives _ (λ id. return-gives _ refl))
+
+opening-gives : (which : Which) → Gives (Opened which) (read-opening which)
+unfolding read-opening
+opening-gives either = record { given = λ l s o l′ t e. tt }
+opening-gives v1-only = record { given = λ l s o l′ t e. tt }
+opening-gives v2-only = bind-gives _ (λ v. passed-gives 4 (eqb v 2) (λ e. rw (not-one v e) second-gives))
 
 content-listed : Listed (17 ∷ []) read-content-type
 unfolding read-content-type
 content-listed = bind-listed uint8-listed (λ v. then-listed (test-listed 17 _) (return-listed _))
 
+second-closing-listed : (content : ℕ) → Listed [] (read-closing-of false content)
+unfolding read-closing-of
+second-closing-listed content = bind-listed uint32-listed (λ f. bind-listed (read-listed _) (λ x. return-listed _))
+
 closing-of-listed : (v1 : Bool) (content : ℕ) → Listed (18 ∷ 19 ∷ []) (read-closing-of v1 content)
 unfolding read-closing-of
 closing-of-listed true content =
     bind-listed uint32-listed (λ r. then-listed (test-listed 18 _) (bind-listed uint8-listed (λ i. then-listed (test-listed 19 _) (bind-listed uint32-listed (λ f. return-listed _)))))
-closing-of-listed false content = also 18 (also 19 (bind-listed uint32-listed (λ f. bind-listed (read-listed _) (λ x. return-listed _))))
+closing-of-listed false content = also 18 (also 19 (second-closing-listed content))
 
-closing-listed : (v1 : Bool) → Listed (17 ∷ 18 ∷ 19 ∷ []) (read-closing v1)
-unfolding read-closing
-closing-listed v1 = bind-listed content-listed (λ c. closing-of-listed v1 c)
-
-abbrev frames-20 : Bool → List ℕ
-frames-20 true = 20 ∷ []
-frames-20 false = []
+closing-listed : (which : Which) (o : Opening) → Opened which o → Listed (17 ∷ reserved-refusals which) (read-closing (eqb (o .version) 1))
+unfolding read-closing reserved-refusals
+closing-listed either o h = bind-listed content-listed (closing-of-listed _)
+closing-listed v1-only o h = bind-listed content-listed (closing-of-listed _)
+closing-listed v2-only o h = rw h (bind-listed content-listed second-closing-listed)
 
 tables-listed : (p k : Bool) {A : Type 0} (a : A) → Listed (22 ∷ 23 ∷ []) (test 22 p >> (test 23 k >> return a))
 tables-listed p k a = then-listed (test-listed 22 p) (then-listed (test-listed 23 k) (return-listed a))
 
-frames-listed : (frames fits : Bool) {A : Type 0} {r : Reader A} → Listed (22 ∷ 23 ∷ []) r → Listed (frames-20 frames ++ (22 ∷ 23 ∷ [])) (test 20 (not frames || fits) >> r)
+frames-listed : (frames fits : Bool) {A : Type 0} {r : Reader A} → Listed (22 ∷ 23 ∷ []) r → Listed (frame-refusals frames ++ (22 ∷ 23 ∷ [])) (test 20 (not frames || fits) >> r)
+unfolding frame-refusals
 frames-listed true fits h = then-listed (test-listed 20 _) h
 frames-listed false fits h = then-listed (sure-listed 20 refl) h
 
-joined : (frames : Bool) → (15 ∷ 16 ∷ []) ++ ((17 ∷ 18 ∷ 19 ∷ []) ++ (frames-20 frames ++ (22 ∷ 23 ∷ []))) ≡ closing-refusals frames
-unfolding closing-refusals
-joined true = refl
-joined false = refl
+after-context-listed : (q : Request) (o : Opening) → Opened (q .which) o → (ps : List PairAt) → Listed (closing-refusals (q .which) (q .frames)) (after-context q o ps)
+unfolding after-context closing-refusals
+after-context-listed q o h ps =
+    bind-listed (keys-listed (q .max)) (λ ks. bind-listed (closing-listed (q .which) o h) (λ c. frames-listed (q .frames) (frame-fits (c .contentType) (c .frameLength)) (tables-listed _ _ _)))
 
-after-context-listed : (q : Request) (o : Opening) (ps : List PairAt) → Listed (closing-refusals (q .frames)) (after-context q o ps)
-unfolding after-context
-after-context-listed q o ps =
-    listed-as (joined (q .frames))
-    (bind-listed (keys-listed (q .max)) (λ ks. bind-listed (closing-listed (eqb (o .version) 1)) (λ c. frames-listed (q .frames) (frame-fits (c .contentType) (c .frameLength)) (tables-listed _ _ _))))
-
-body-listed : (q : Request) → Listed (opening-refusals (q .which) ++ (section-refusals (q .mode) ++ closing-refusals (q .frames))) (read-body q)
+body-listed : (q : Request) → Listed (opening-refusals (q .which) ++ (section-refusals (q .mode) ++ closing-refusals (q .which) (q .frames))) (read-body q)
 unfolding read-body after-opening
-body-listed q = bind-listed (opening-listed (q .which)) (λ o. bind-listed (section-listed (q .mode)) (after-context-listed q o))
+body-listed q = given-listed (opening-listed (q .which)) (opening-gives (q .which)) (λ o h. bind-listed (section-listed (q .mode)) (after-context-listed q o h))
 
 -- an authentication record
 auth-of-listed : (v1 : Bool) → Listed [] (read-header-auth-tag-of v1)
@@ -309,8 +245,8 @@ not-in (k ∷ ks) e h =
     no e f = let z : _≡_ {A = ℕ} 0 1 = cc in omega arith
 
 -- the lists, by what was asked
-body-without-2 : (which : Which) (mode : Mode) (frames : Bool) → every-other (opening-refusals which ++ (section-refusals mode ++ closing-refusals frames)) ≡ true
-unfolding opening-refusals section-refusals closing-refusals
+body-without-2 : (which : Which) (mode : Mode) (frames : Bool) → every-other (opening-refusals which ++ (section-refusals mode ++ closing-refusals which frames)) ≡ true
+unfolding opening-refusals section-refusals reserved-refusals frame-refusals closing-refusals
 body-without-2 either tolerant true = refl
 body-without-2 either tolerant false = refl
 body-without-2 either strict true = refl

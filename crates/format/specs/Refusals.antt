@@ -26,19 +26,28 @@ find-refusals = 1 ∷ 2 ∷ (section-refusals tolerant ++ (29 ∷ []))
 unfoldable pub keys-refusals : List ℕ
 keys-refusals = 1 ∷ 2 ∷ 15 ∷ 16 ∷ 23 ∷ []
 
--- only a reader of one version answers 4
+-- only a reader of one version answers 4, and one of version 2 alone never 5
 unfoldable pub opening-refusals : Which → List ℕ
 opening-refusals either = 3 ∷ 5 ∷ 6 ∷ 7 ∷ []
 opening-refusals v1-only = 3 ∷ 4 ∷ 5 ∷ 6 ∷ 7 ∷ []
-opening-refusals v2-only = 3 ∷ 4 ∷ 5 ∷ 6 ∷ 7 ∷ []
+opening-refusals v2-only = 3 ∷ 4 ∷ 6 ∷ 7 ∷ []
+
+-- nor 18 and 19
+unfoldable pub reserved-refusals : Which → List ℕ
+reserved-refusals either = 18 ∷ 19 ∷ []
+reserved-refusals v1-only = 18 ∷ 19 ∷ []
+reserved-refusals v2-only = []
 
 -- only a reader that tests the frame length answers 20
-unfoldable pub closing-refusals : Bool → List ℕ
-closing-refusals true = 15 ∷ 16 ∷ 17 ∷ 18 ∷ 19 ∷ 20 ∷ 22 ∷ 23 ∷ []
-closing-refusals false = 15 ∷ 16 ∷ 17 ∷ 18 ∷ 19 ∷ 22 ∷ 23 ∷ []
+unfoldable pub frame-refusals : Bool → List ℕ
+frame-refusals true = 20 ∷ []
+frame-refusals false = []
+
+unfoldable pub closing-refusals : Which → Bool → List ℕ
+closing-refusals which frames = 15 ∷ 16 ∷ 17 ∷ (reserved-refusals which ++ (frame-refusals frames ++ (22 ∷ 23 ∷ [])))
 
 unfoldable pub body-refusals : Request → List ℕ
-body-refusals q = 1 ∷ 2 ∷ (opening-refusals (q .which) ++ (section-refusals (q .mode) ++ closing-refusals (q .frames)))
+body-refusals q = 1 ∷ 2 ∷ (opening-refusals (q .which) ++ (section-refusals (q .mode) ++ closing-refusals (q .which) (q .frames)))
 
 unfoldable pub auth-refusals : List ℕ
 auth-refusals = 1 ∷ 2 ∷ 6 ∷ []
