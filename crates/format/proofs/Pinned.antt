@@ -23,7 +23,7 @@ use Rattle.format.proofs.Context.{length-pairs}
 use Rattle.format.proofs.Lengths.{lengths}
 use Rattle.format.proofs.Find.{same-equal, equal-same, seen-has, has-seen}
 
-or-cases : (a b : Bool) → (a || b) ≡ true → (a ≡ true) ⊎ (b ≡ true)
+pub or-cases : (a b : Bool) → (a || b) ≡ true → (a ≡ true) ⊎ (b ≡ true)
 or-cases true b e = inl refl
 or-cases false b e = inr e
 

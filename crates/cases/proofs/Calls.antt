@@ -1,0 +1,161 @@
+-- For each list of refusals a table of calls whose answers, computed, are the numbers of the list in their order. Assumes nothing.
+use mathlib.Core.Path.{_≡_, refl}
+use mathlib.Core.Bool.{Bool, true, false}
+use mathlib.Core.Option.{Option, none, some}
+use mathlib.Core.List.{List, [], _∷_, _++_, map}
+use Prim.Native.Nat.{ℕ}
+use lib.ListN.{take, replicate}
+use Rattle.format.specs.Read.{Reader, Answer, accepted, refused, operation}
+use Rattle.format.specs.Context.{Mode, tolerant, strict, read-aad-section, read-aad-section-into, look-up, find-value}
+use Rattle.format.specs.Keys.{at-most, read-encrypted-data-keys-section-into}
+use Rattle.format.specs.Body.{Which, either, v1-only, v2-only, read-header-body}
+use Rattle.format.specs.Auth.{read-header-auth-tag, read-header-auth-tag-of}
+use Rattle.format.specs.Refusals.{section-refusals, opening-refusals, reserved-refusals, frame-refusals, closing-refusals, keys-refusals, body-refusals, auth-refusals}
+use Rattle.cases.specs.Cases.{H, opened}
+use Rattle.cases.specs.Headers.{bytes-from, V2}
+use Rattle.cases.specs.Occurs.{listed-for}
+
+-- a refusal's number
+abbrev pub number-of : {A : Type 0} → Answer A → Option ℕ
+number-of (accepted a t) = none
+number-of (refused k p) = some k
+
+-- a message and a start
+abbrev pub Call : Type 0
+Call = List ℕ × ℕ
+
+abbrev pub calls : List (List ℕ) → List Call
+calls ms = map (λ (m : List ℕ). (m, 0)) ms
+
+unfoldable pub said : {A : Type 0} → Reader A → Call → Option ℕ
+said r (m, s) = number-of (operation r m s)
+
+-- a context section that refuses 8 to 14 without 21, one a number
+unfoldable pub sections : List (List ℕ)
+sections =
+    (0x00 ∷ 0x02 ∷ 0x00 ∷ 0x01 ∷ [])
+    ∷ (0x00 ∷ 0x03 ∷ 0x00 ∷ 0x00 ∷ 0x00 ∷ [])
+    ∷ (0x00 ∷ 0x05 ∷ 0x00 ∷ 0x01 ∷ 0x00 ∷ 0x01 ∷ 0xFF ∷ [])
+    ∷ (0x00 ∷ 0x07 ∷ 0x00 ∷ 0x01 ∷ 0x00 ∷ 0x00 ∷ 0x00 ∷ 0x01 ∷ 0xFF ∷ [])
+    ∷ (0x00 ∷ 0x0A ∷ 0x00 ∷ 0x02 ∷ 0x00 ∷ 0x00 ∷ 0x00 ∷ 0x00 ∷ 0x00 ∷ 0x00 ∷ 0x00 ∷ 0x00 ∷ [])
+    ∷ (0xFF ∷ 0xFF ∷ 0x00 ∷ 0x01 ∷ 0xFF ∷ 0xFA ∷ replicate 65532 0x00)
+    ∷ (0x00 ∷ 0x07 ∷ 0x00 ∷ 0x01 ∷ 0x00 ∷ 0x00 ∷ 0x00 ∷ 0x00 ∷ 0x00 ∷ [])
+    ∷ []
+
+-- a start that refuses 1, and no message, which wants one
+abbrev pub far-and-short : List Call
+far-and-short = ([], 4294967296) ∷ ([], 0) ∷ []
+
+-- in both modes
+pub section-answers : (mode : Mode) → map (said (read-aad-section mode)) (far-and-short ++ calls sections) ≡ map some (1 ∷ 2 ∷ section-refusals tolerant)
+unfolding opened said sections section-refusals
+section-answers mode = refl
+
+-- what stands before the context section, and behind the keys and a content type; true: version 1
+abbrev pub opening-bytes : Bool → List ℕ
+opening-bytes true = take 20 H
+opening-bytes false = take 35 V2
+
+abbrev closing-bytes : Bool → List ℕ
+closing-bytes true = 0x00 ∷ 0x00 ∷ 0x00 ∷ 0x00 ∷ 0x0C ∷ 0x00 ∷ 0x00 ∷ 0x00 ∷ 0x00 ∷ []
+closing-bytes false = 0x00 ∷ 0x00 ∷ 0x00 ∷ 0x00 ∷ bytes-from 0xC0
+
+-- the version byte, type and suite that refuse 3 to 7
+abbrev openings : Which → List (List ℕ)
+openings either = (0x03 ∷ []) ∷ (0x01 ∷ 0x81 ∷ []) ∷ (0x01 ∷ 0x80 ∷ 0x00 ∷ 0x00 ∷ []) ∷ (0x01 ∷ 0x80 ∷ 0x04 ∷ 0x78 ∷ []) ∷ []
+openings v1-only = (0x03 ∷ []) ∷ (0x02 ∷ []) ∷ (0x01 ∷ 0x81 ∷ []) ∷ (0x01 ∷ 0x80 ∷ 0x00 ∷ 0x00 ∷ []) ∷ (0x01 ∷ 0x80 ∷ 0x04 ∷ 0x78 ∷ []) ∷ []
+openings v2-only = (0x03 ∷ []) ∷ (0x01 ∷ []) ∷ (0x02 ∷ 0x00 ∷ 0x00 ∷ []) ∷ (0x02 ∷ 0x01 ∷ 0x78 ∷ []) ∷ []
+
+-- the reserved bytes and IV length that refuse 18 and 19, the frame length that refuses 20, behind no pairs and no keys
+abbrev reserved : List (List ℕ)
+reserved = (0x00 ∷ 0x00 ∷ 0x00 ∷ 0x00 ∷ 0x02 ∷ 0x00 ∷ 0x00 ∷ 0x00 ∷ 0x01 ∷ []) ∷ (0x00 ∷ 0x00 ∷ 0x00 ∷ 0x00 ∷ 0x02 ∷ 0x00 ∷ 0x00 ∷ 0x00 ∷ 0x00 ∷ 0x0B ∷ []) ∷ []
+
+abbrev closings : Which → List (List ℕ)
+closings either = reserved ++ ((0x00 ∷ 0x00 ∷ 0x00 ∷ 0x00 ∷ 0x02 ∷ closing-bytes true) ∷ [])
+closings v1-only = reserved
+closings v2-only = []
+
+abbrev pub is-v1 : Which → Bool
+is-v1 either = true
+is-v1 v1-only = true
+is-v1 v2-only = false
+
+-- what refuses behind an opening, with at most one key, a table for one pair and none for keys: the section's numbers, 15 to 17, the
+-- closing's, two pairs and one key
+abbrev behind-opening : Which → List (List ℕ)
+behind-opening which =
+    sections
+    ++ (((0x00 ∷ 0x00 ∷ 0x00 ∷ 0x02 ∷ []) ∷ (0x00 ∷ 0x00 ∷ 0x00 ∷ 0x01 ∷ 0x00 ∷ 0x01 ∷ 0xFF ∷ []) ∷ (0x00 ∷ 0x00 ∷ 0x00 ∷ 0x00 ∷ 0x03 ∷ []) ∷ [])
+    ++ (closings which
+    ++ ((0x00 ∷ 0x0B ∷ 0x00 ∷ 0x02 ∷ 0x00 ∷ 0x00 ∷ 0x00 ∷ 0x00 ∷ 0x00 ∷ 0x01 ∷ 0x61 ∷ 0x00 ∷ 0x00 ∷ 0x00 ∷ 0x00 ∷ 0x01 ∷ closing-bytes (is-v1 which))
+    ∷ (0x00 ∷ 0x00 ∷ 0x00 ∷ 0x01 ∷ 0x00 ∷ 0x00 ∷ 0x00 ∷ 0x00 ∷ 0x00 ∷ 0x00 ∷ 0x01 ∷ closing-bytes (is-v1 which))
+    ∷ [])))
+
+abbrev pub body-calls : Which → List Call
+body-calls which = far-and-short ++ (calls (openings which) ++ calls (map (λ (b : List ℕ). opening-bytes (is-v1 which) ++ b) (behind-opening which)))
+
+abbrev pub body-said : Which → Mode → Call → Option ℕ
+body-said which mode = said (read-header-body which mode (at-most 1) 4 0)
+
+-- in both modes the numbers of the tolerant list
+abbrev pub Answered : Which → Type 0
+Answered which = (mode : Mode) → map (body-said which mode) (body-calls which) ≡ map some (listed-for which tolerant)
+
+either-answers : Answered either
+unfolding opened said sections H V2 bytes-from opening-refusals section-refusals reserved-refusals frame-refusals closing-refusals body-refusals
+either-answers mode = refl
+
+v1-answers : Answered v1-only
+unfolding opened said sections H V2 bytes-from opening-refusals section-refusals reserved-refusals frame-refusals closing-refusals body-refusals
+v1-answers mode = refl
+
+v2-answers : Answered v2-only
+unfolding opened said sections H V2 bytes-from opening-refusals section-refusals reserved-refusals frame-refusals closing-refusals body-refusals
+v2-answers mode = refl
+
+pub body-answers : (which : Which) → Answered which
+body-answers either = either-answers
+body-answers v1-only = v1-answers
+body-answers v2-only = v2-answers
+
+-- the old form of an empty context, which the strict mode alone refuses
+abbrev pub old-form : List ℕ
+old-form = 0x00 ∷ 0x02 ∷ 0x00 ∷ 0x00 ∷ []
+
+pub strict-section : said (read-aad-section strict) (old-form, 0) ≡ some 21
+unfolding opened said
+strict-section = refl
+
+pub strict-body : (which : Which) → said (read-header-body which strict (at-most 1) 4 0) (opening-bytes (is-v1 which) ++ old-form, 0) ≡ some 21
+unfolding opened said H V2 bytes-from
+strict-body either = refl
+strict-body v1-only = refl
+strict-body v2-only = refl
+
+-- one pair and no table; no pair and any key
+pub no-table : (mode : Mode) → said (read-aad-section-into mode 0) (0x00 ∷ 0x06 ∷ 0x00 ∷ 0x01 ∷ 0x00 ∷ 0x00 ∷ 0x00 ∷ 0x00 ∷ [], 0) ≡ some 22
+unfolding opened said
+no-table mode = refl
+
+pub no-pair : said (find-value []) (0x00 ∷ 0x00 ∷ [], 0) ≡ some 29
+unfolding opened said find-value look-up
+no-pair = refl
+
+-- a key section with at most one key and no table
+abbrev pub key-calls : List Call
+key-calls = far-and-short ++ calls ((0x00 ∷ 0x02 ∷ []) ∷ (0x00 ∷ 0x01 ∷ 0x00 ∷ 0x01 ∷ 0xFF ∷ []) ∷ (0x00 ∷ 0x01 ∷ 0x00 ∷ 0x00 ∷ 0x00 ∷ 0x00 ∷ 0x00 ∷ 0x00 ∷ []) ∷ [])
+
+pub key-answers : map (said (read-encrypted-data-keys-section-into (at-most 1) 0)) key-calls ≡ map some keys-refusals
+unfolding opened said read-encrypted-data-keys-section-into keys-refusals
+key-answers = refl
+
+-- an authentication record of no bytes, by suite and start
+abbrev pub auth-said : ℕ × ℕ → Option ℕ
+auth-said (suite, start) = said (read-header-auth-tag suite) ([], start)
+
+abbrev pub auth-calls : List (ℕ × ℕ)
+auth-calls = (0x0178, 4294967296) ∷ (0x0178, 0) ∷ (0x0000, 0) ∷ []
+
+pub auth-answers : map auth-said auth-calls ≡ map some auth-refusals
+unfolding opened said read-header-auth-tag read-header-auth-tag-of auth-refusals
+auth-answers = refl

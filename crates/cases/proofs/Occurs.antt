@@ -1,0 +1,118 @@
+-- Each number of a list is answered, by a call of the tables in proofs/Calls. Assumes nothing.
+use mathlib.Core.Path.{_≡_, refl, sym, ap, _∙_}
+use mathlib.Core.Bool.{Bool, true, false, _||_}
+use mathlib.Core.Logic.{_⊎_, inl, inr, ⊎-elim}
+use mathlib.Core.Option.{Option, none, some}
+use mathlib.Core.List.{List, [], _∷_, _++_, map, List·Memᴰ, List·Memᴰ·head, List·Memᴰ·tail, List·Memᴰ·not-nil, List·Memᴰ·cases-cons}
+use Prim.Native.Nat.{ℕ}
+use native.Mathlib.Omega.{arith}
+use lib.Dec.{eqb}
+use Rattle.format.specs.Read.{Reader, Answer, accepted, refused, operation}
+use Rattle.format.specs.Serialize.{every}
+use Rattle.format.specs.Context.{Mode, tolerant, strict, read-aad-section, read-aad-section-into, look-up, find-value}
+use Rattle.format.specs.Keys.{Max, at-most}
+use Rattle.format.specs.Body.{Which, either, v1-only, v2-only, read-header-body}
+use Rattle.format.specs.Auth.{read-header-auth-tag}
+use Rattle.format.specs.Refusals.{section-refusals, context-refusals, find-refusals, opening-refusals, reserved-refusals, frame-refusals, closing-refusals, keys-refusals, body-refusals, auth-refusals}
+use Rattle.format.proofs.Tests.{is-eqb}
+use Rattle.format.proofs.Suites.{every-member}
+use Rattle.format.proofs.Messages.{refused-stays}
+use Rattle.format.proofs.Pinned.{or-cases}
+use Rattle.cases.specs.Occurs.{Answers, listed-for, Occurs}
+use Rattle.cases.proofs.Calls.{number-of, Call, calls, said, sections, far-and-short, section-answers, opening-bytes, is-v1, body-calls, body-answers, old-form, strict-section, strict-body, no-table, no-pair, key-calls, key-answers, auth-said, auth-calls, auth-answers}
+
+-- a number that is answered by a call
+answered : {A : Type 0} (r : Reader A) (c : Call) (k : ℕ) → said r c ≡ some k → Answers r k
+unfolding said
+answered {A} r (m, s) k e = go (operation r m s) refl e
+  where
+    go : (a : Answer A) → operation r m s ≡ a → number-of a ≡ some k → Answers r k
+    go (accepted a t) q e = let z : _≡_ {A = ℕ} 0 1 = cc in absurd (omega arith)
+    go (refused j p) q e = let same : j ≡ k = cc in record { message = m; start = s; position = p; answers = q ∙ ap (λ n. refused n p) same }
+
+-- answers that are the numbers of a list answer each of them
+among : {C : Type 0} (f : C → Option ℕ) (cs : List C) (ks : List ℕ) → map f cs ≡ map some ks → (k : ℕ) → List·Memᴰ k ks → (c : C) × (f c ≡ some k)
+among f [] [] e k h = absurd (List·Memᴰ·not-nil h)
+among f [] (j ∷ ks) e k h = let z : _≡_ {A = ℕ} 0 1 = cc in absurd (omega arith)
+among f (c ∷ cs) [] e k h = let z : _≡_ {A = ℕ} 0 1 = cc in absurd (omega arith)
+among f (c ∷ cs) (j ∷ ks) e k h =
+    let e₁ : f c ≡ some j = cc in
+    let e₂ : map f cs ≡ map some ks = cc in
+    ⊎-elim (λ q. (c, e₁ ∙ ap some (sym q))) (among f cs ks e₂ k) (List·Memᴰ·cases-cons h)
+
+each-answered : {A : Type 0} (r : Reader A) (cs : List Call) (ks : List ℕ) → map (said r) cs ≡ map some ks → (k : ℕ) → List·Memᴰ k ks → Answers r k
+each-answered r cs ks e k h = let (c, q) = among (said r) cs ks e k h in answered r c k q
+
+-- a list is made of another and of a few numbers more
+abbrev elem : List ℕ → ℕ → Bool
+elem [] k = false
+elem (j ∷ ks) k = eqb k j || elem ks k
+
+elem-in : (ks : List ℕ) (k : ℕ) → elem ks k ≡ true → List·Memᴰ k ks
+elem-in [] k e = let z : _≡_ {A = ℕ} 0 1 = cc in absurd (omega arith)
+elem-in (j ∷ ks) k e = ⊎-elim (λ q. List·Memᴰ·head (is-eqb k j q)) (λ h. List·Memᴰ·tail (elem-in ks k h)) (or-cases (eqb k j) (elem ks k) e)
+
+one-apart : (x : ℕ) (js ks : List ℕ) → every (λ k. eqb k x || elem js k) ks ≡ true → (k : ℕ) → List·Memᴰ k ks → (k ≡ x) ⊎ List·Memᴰ k js
+one-apart x js ks e k h = ⊎-elim (λ q. inl (is-eqb k x q)) (λ q. inr (elem-in js k q)) (or-cases (eqb k x) (elem js k) (every-member (λ k. eqb k x || elem js k) ks e k h))
+
+-- the context section, as an operation and in find
+abbrev common : List ℕ
+common = 1 ∷ 2 ∷ section-refusals tolerant
+
+section-answered : (mode : Mode) (k : ℕ) → List·Memᴰ k common → Answers (read-aad-section mode) k
+section-answered mode = each-answered (read-aad-section mode) (far-and-short ++ calls sections) common (section-answers mode)
+
+strict-answered : (k : ℕ) → List·Memᴰ k (1 ∷ 2 ∷ section-refusals strict) → Answers (read-aad-section strict) k
+unfolding every section-refusals
+strict-answered k h =
+    ⊎-elim (λ e. answered (read-aad-section strict) (old-form, 0) k (strict-section ∙ ap some (sym e))) (section-answered strict k) (one-apart 21 common (1 ∷ 2 ∷ section-refusals strict) refl k h)
+
+section-of : (mode : Mode) (k : ℕ) → List·Memᴰ k (1 ∷ 2 ∷ section-refusals mode) → Answers (read-aad-section mode) k
+section-of tolerant k h = section-answered tolerant k h
+section-of strict k h = strict-answered k h
+
+without-22 : (mode : Mode) → every (λ k. eqb k 22 || elem (1 ∷ 2 ∷ section-refusals mode) k) (context-refusals mode) ≡ true
+unfolding every section-refusals context-refusals
+without-22 tolerant = refl
+without-22 strict = refl
+
+of-context : (mode : Mode) (k : ℕ) → List·Memᴰ k (context-refusals mode) → (room : ℕ) × Answers (read-aad-section-into mode room) k
+unfolding read-aad-section-into
+of-context mode k h =
+    ⊎-elim (λ e. (0, answered (read-aad-section-into mode 0) _ k (no-table mode ∙ ap some (sym e))))
+    (λ i. let a = section-of mode k i in (0, record { message = a .message; start = a .start; position = a .position; answers = refused-stays _ _ (a .message) (a .start) k (a .position) (a .answers) }))
+    (one-apart 22 (1 ∷ 2 ∷ section-refusals mode) (context-refusals mode) (without-22 mode) k h)
+
+of-find : (k : ℕ) → List·Memᴰ k find-refusals → (key : List ℕ) × Answers (find-value key) k
+unfolding every section-refusals find-refusals find-value
+of-find k h =
+    ⊎-elim (λ e. ([], answered (find-value []) _ k (no-pair ∙ ap some (sym e))))
+    (λ i. let a = section-answered tolerant k i in ([], record { message = a .message; start = a .start; position = a .position; answers = refused-stays _ (look-up []) (a .message) (a .start) k (a .position) (a .answers) }))
+    (one-apart 29 common find-refusals refl k h)
+
+-- a body
+without-21 : (which : Which) → every (λ k. eqb k 21 || elem (listed-for which tolerant) k) (listed-for which strict) ≡ true
+unfolding every opening-refusals section-refusals reserved-refusals frame-refusals closing-refusals body-refusals
+without-21 either = refl
+without-21 v1-only = refl
+without-21 v2-only = refl
+
+body-answered : (which : Which) (mode : Mode) (k : ℕ) → List·Memᴰ k (listed-for which tolerant) → Answers (read-header-body which mode (at-most 1) 4 0) k
+body-answered which mode = each-answered (read-header-body which mode (at-most 1) 4 0) (body-calls which) (listed-for which tolerant) (body-answers which mode)
+
+of-body : (which : Which) (mode : Mode) (k : ℕ) → List·Memᴰ k (listed-for which mode) → Answers (read-header-body which mode (at-most 1) 4 0) k
+of-body which tolerant k h = body-answered which tolerant k h
+of-body which strict k h =
+    ⊎-elim (λ e. answered (read-header-body which strict (at-most 1) 4 0) (opening-bytes (is-v1 which) ++ old-form, 0) k (strict-body which ∙ ap some (sym e)))
+    (body-answered which strict k)
+    (one-apart 21 (listed-for which tolerant) (listed-for which strict) (without-21 which) k h)
+
+pub occurs : Occurs
+occurs =
+    record {
+      of-context = of-context;
+      of-find = of-find;
+      of-keys = λ k h. (at-most 1, 0, each-answered _ key-calls keys-refusals key-answers k h);
+      of-body = λ which mode k h. (at-most 1, 4, 0, of-body which mode k h);
+      of-auth = λ k h. let (c, e) = among auth-said auth-calls auth-refusals auth-answers k h in (c .0, answered (read-header-auth-tag (c .0)) ([], c .1) k e);
+    }

@@ -1,0 +1,29 @@
+-- Each number of the lists in Rattle.format.specs.Refusals does occur: some call of the operation answers it. Assumes nothing.
+use mathlib.Core.Path.{_≡_}
+use mathlib.Core.List.{List, [], _∷_, List·Memᴰ}
+use Prim.Native.Nat.{ℕ}
+use Rattle.format.specs.Read.{Reader, refused, operation}
+use Rattle.format.specs.Context.{Mode, read-aad-section-into, find-value}
+use Rattle.format.specs.Keys.{Max, no-max, read-encrypted-data-keys-section-into}
+use Rattle.format.specs.Body.{Which, request, tests-frames, read-header-body}
+use Rattle.format.specs.Auth.{read-header-auth-tag}
+use Rattle.format.specs.Refusals.{context-refusals, find-refusals, keys-refusals, body-refusals, auth-refusals}
+
+-- there is a message and a start of which the reader answers the refusal
+pub record Answers {A : Type 0} (r : Reader A) (number : ℕ) : Type 0 where
+  pub message : List ℕ
+  pub start : ℕ
+  pub position : ℕ
+  pub answers : operation r message start ≡ refused number position
+
+-- what a body reader of that version and mode can answer; the maximum and the tables don't change the list
+abbrev pub listed-for : Which → Mode → List ℕ
+listed-for which mode = body-refusals (request which mode (tests-frames which) no-max 0 0)
+
+pub record Occurs : Type 0 where
+  pub of-context : (mode : Mode) (k : ℕ) → List·Memᴰ k (context-refusals mode) → (room : ℕ) × Answers (read-aad-section-into mode room) k
+  pub of-find : (k : ℕ) → List·Memᴰ k find-refusals → (key : List ℕ) × Answers (find-value key) k
+  pub of-keys : (k : ℕ) → List·Memᴰ k keys-refusals → (max : Max) × (room : ℕ) × Answers (read-encrypted-data-keys-section-into max room) k
+  pub of-body : (which : Which) (mode : Mode) (k : ℕ) → List·Memᴰ k (listed-for which mode)
+      → (max : Max) × (pairRoom : ℕ) × (keyRoom : ℕ) × Answers (read-header-body which mode max pairRoom keyRoom) k
+  pub of-auth : (k : ℕ) → List·Memᴰ k auth-refusals → (suite : ℕ) × Answers (read-header-auth-tag suite) k
