@@ -6,7 +6,7 @@ use mathlib.Core.Option.{Option, none, some}
 use mathlib.Core.List.{List, [], _∷_, _++_}
 use Prim.Native.Nat.{ℕ}
 use lib.Dec.{eqb}
-use lib.ListN.{take, drop}
+use lib.ListN.{take, drop, replicate}
 use Rattle.format.specs.Read.{operation}
 use Rattle.format.specs.Serialize.{every}
 use Rattle.format.specs.Context.{Mode, tolerant, strict, read-aad-section-into, look-up, find-value}
@@ -74,6 +74,27 @@ to-write version messageType suite messageId pairTable keyTable contentType iv s
 abbrev id : List ℕ
 id = take 16 (drop 4 H)
 
+-- the same over another text
+abbrev over : List ℕ → List ℕ → List ℕ → Writing
+over text pairTable keyTable =
+    writing-header-body (record {
+      version = 1;
+      messageType = 0x80;
+      suite = 0x0178;
+      contentType = 0;
+      headerIvLength = 0;
+      frameLength = 0;
+      messageId = id;
+      suiteData = [];
+      text = text;
+      pairTable = pairTable;
+      keyTable = keyTable;
+    })
+
+-- no UTF-8
+abbrev long-text : ℕ → List ℕ
+long-text n = replicate n 0xFF
+
 unfoldable pub faults : List Fault
 faults =
     -- read a body
@@ -114,6 +135,8 @@ faults =
     ∷ section tolerant 0 (0x00 ∷ 0x05 ∷ 0x00 ∷ 0x01 ∷ 0x00 ∷ 0x01 ∷ 0xFF ∷ []) (refuses 10 0)
     ∷ section tolerant 0 (0x00 ∷ 0x0C ∷ 0x00 ∷ 0x02 ∷ 0x00 ∷ 0x00 ∷ 0x00 ∷ 0x00 ∷ 0x00 ∷ 0x00 ∷ 0x00 ∷ 0x02 ∷ 0xC0 ∷ 0x80 ∷ []) (refuses 11 0)
     ∷ section tolerant 0 (0x00 ∷ 0x0A ∷ 0x00 ∷ 0x03 ∷ 0x00 ∷ 0x00 ∷ 0x00 ∷ 0x00 ∷ 0x00 ∷ 0x00 ∷ 0x00 ∷ 0x00 ∷ []) (refuses 12 0)
+    ∷ section tolerant 0 (0xFF ∷ 0xFF ∷ 0x00 ∷ 0x02 ∷ 0x00 ∷ 0x00 ∷ 0x00 ∷ 0x00 ∷ 0x00 ∷ 0x00 ∷ 0xFF ∷ 0xF6 ∷ zeros 65527) (refuses 12 0)
+    ∷ section tolerant 0 (0xFF ∷ 0xFF ∷ 0x00 ∷ 0x01 ∷ 0xFF ∷ 0xFA ∷ zeros 65532) (refuses 13 0)
     ∷ section tolerant 0 (0x00 ∷ 0x07 ∷ 0x00 ∷ 0x01 ∷ 0x00 ∷ 0x00 ∷ 0x00 ∷ 0x00 ∷ 0x00 ∷ []) (refuses 14 0)
     ∷ section tolerant 3 (0x00 ∷ 0x06 ∷ 0x00 ∷ 0x01 ∷ 0x00 ∷ 0x00 ∷ 0x00 ∷ 0x00 ∷ []) (refuses 22 0)
     -- read a key section
@@ -133,7 +156,7 @@ faults =
     ∷ write (to-write 1 0x80 0 [] (0 ∷ []) [] 0 0 [] 0) 6
     ∷ write (to-write 1 0x80 0x0478 [] (0 ∷ []) [] 0 0 [] 0) 7
     ∷ write (to-write 1 0x80 0x0178 [] (0 ∷ []) [] 0 0 [] 0) 24
-    ∷ write (to-write 1 0x80 0x0178 id (0 ∷ 8 ∷ 0 ∷ 65536 ∷ []) [] 0 0 [] 0) 26
+    ∷ write (to-write 1 0x80 0x0178 id (6 ∷ 1 ∷ 6 ∷ 2 ∷ []) [] 0 0 [] 0) 26
     ∷ write (to-write 1 0x80 0x0178 id (0 ∷ 4 ∷ 4 ∷ []) [] 0 0 [] 0) 26
     ∷ write (to-write 1 0x80 0x0178 id (6 ∷ 1 ∷ 6 ∷ 1 ∷ []) (0 ∷ []) 0 0 [] 0) 10
     ∷ write (to-write 1 0x80 0x0178 id (0 ∷ 4 ∷ 4 ∷ 2 ∷ 0 ∷ 4 ∷ 6 ∷ 1 ∷ []) (0 ∷ []) 0 0 [] 0) 11
@@ -146,7 +169,13 @@ faults =
     ∷ write (to-write 1 0x80 0x0178 id (0 ∷ 4 ∷ 4 ∷ 2 ∷ []) [] 2 12 [] 0) 20
     ∷ write (to-write 1 0x80 0x0178 id (0 ∷ 4 ∷ 4 ∷ 2 ∷ []) [] 1 12 [] 1) 20
     ∷ write (to-write 1 0x80 0x0178 id (0 ∷ 4 ∷ 4 ∷ 2 ∷ []) [] 2 12 [] 1) 28
+    ∷ write (over (zeros 65530) (0 ∷ 65530 ∷ 0 ∷ 0 ∷ []) (0 ∷ [])) 13
     -- write a section, a record
+    ∷ write (writing-aad-section (long-text 65536) (0 ∷ 65536 ∷ 65536 ∷ 1 ∷ [])) 26
+    ∷ write (writing-aad-section (long-text 65536) (0 ∷ 65536 ∷ 0 ∷ 0 ∷ [])) 27
+    ∷ write (writing-encrypted-data-keys-section (long-text 65536) (0 ∷ 0 ∷ 0 ∷ 65536 ∷ 65536 ∷ 1 ∷ [])) 26
+    ∷ write (writing-encrypted-data-keys-section (long-text 65536) (0 ∷ 1 ∷ 0 ∷ 65536 ∷ 0 ∷ 0 ∷ [])) 27
+    ∷ write (writing-aad-section (zeros 65526) (0 ∷ 0 ∷ 0 ∷ 0 ∷ 0 ∷ 0 ∷ 0 ∷ 65526 ∷ [])) 12
     ∷ write (writing-aad-section [] (0 ∷ 0 ∷ [])) 26
     ∷ write (writing-aad-section [] []) 28
     ∷ write (writing-encrypted-data-keys-section [] (0 ∷ 0 ∷ 0 ∷ 0 ∷ [])) 26
