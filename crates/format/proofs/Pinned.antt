@@ -18,7 +18,7 @@ use Rattle.format.proofs.Tests.{leb-is, is-leb, nleb-is, is-nleb, eqb-i
 use Rattle.format.proofs.Serialize.{read-fits, read-short}
 use Rattle.format.proofs.Firsts.{both}
 use Rattle.format.proofs.Grammar.{valid-octets, octets-valid}
-use Rattle.format.proofs.Suites.{in-a-row, row-of, no-third, eleven}
+use Rattle.format.proofs.Suites.{in-a-row, row-of, no-third, committing, eleven}
 use Rattle.format.proofs.Context.{length-pairs}
 use Rattle.format.proofs.Lengths.{lengths}
 use Rattle.format.proofs.Find.{same-equal, equal-same, seen-has, has-seen}
@@ -103,6 +103,7 @@ pinned =
       eleven = eleven;
       in-a-row = in-a-row;
       row-of = row-of;
+      committing = committing;
       no-third = no-third;
       one-two = one-two;
       frames = frames;

@@ -2,13 +2,13 @@
 use mathlib.Core.Path.{_≡_, refl, sym, ap, _∙_}
 use mathlib.Core.Bool.{Bool, true, false, cond, not, _&&_, _||_}
 use mathlib.Core.Logic.{⊎-elim}
-use mathlib.Core.List.{List, [], _∷_, List·Memᴰ, List·Memᴰ·head, List·Memᴰ·tail, List·Memᴰ·not-nil, List·Memᴰ·cases-cons}
+use mathlib.Core.List.{List, [], _∷_, map, List·Memᴰ, List·Memᴰ·head, List·Memᴰ·tail, List·Memᴰ·not-nil, List·Memᴰ·cases-cons}
 use Prim.Native.Nat.{ℕ}
 use native.Mathlib.Omega.{arith}
-use lib.Dec.{eqb}
-use lib.ListN.{length}
+use lib.Dec.{leb, eqb}
 use Rattle.format.specs.Serialize.{every}
 use Rattle.format.specs.Shared.{one-or-two, SuiteRow, row, suites, version-in, suite-version, known}
+use Rattle.format.specs.Pinned.{number-of}
 use Rattle.format.proofs.Tests.{is-eqb}
 use Rattle.format.proofs.Firsts.{both}
 
@@ -55,6 +55,17 @@ pub no-third : (suite : ℕ) → known suite ≡ true → one-or-two (suite-vers
 unfolding of-two-versions
 no-third suite e = every-member of-two-versions suites two-versions (row suite (suite-version suite)) (in-a-row suite e)
 
+commits : SuiteRow → Bool
+commits r = eqb (r .version) (cond (leb 0x0400 (r .number)) 2 1)
+
+all-commit : every commits suites ≡ true
+unfolding every commits suites
+all-commit = refl
+
+pub committing : (suite : ℕ) → known suite ≡ true → suite-version suite ≡ cond (leb 0x0400 suite) 2 1
+unfolding commits
+committing suite e = is-eqb _ _ (every-member commits suites all-commit (row suite (suite-version suite)) (in-a-row suite e))
+
 -- a known suite that is not of version 1 is of version 2
 pub version-2 : (suite : ℕ) → known suite ≡ true → eqb (suite-version suite) 1 ≡ false → suite-version suite ≡ 2
 version-2 suite k e = go (eqb (suite-version suite) 1) e (no-third suite k)
@@ -63,6 +74,6 @@ version-2 suite k e = go (eqb (suite-version suite) 1) e (no-third suite k)
     go true p t = let z : _≡_ {A = ℕ} 0 1 = cc in absurd (omega arith)
     go false p t = is-eqb _ _ t
 
-pub eleven : length suites ≡ 11
+pub eleven : map number-of suites ≡ (0x0014 ∷ 0x0046 ∷ 0x0078 ∷ 0x0114 ∷ 0x0146 ∷ 0x0178 ∷ 0x0214 ∷ 0x0346 ∷ 0x0378 ∷ 0x0478 ∷ 0x0578 ∷ [])
 unfolding suites
 eleven = refl

@@ -1,10 +1,11 @@
 -- Demand 3 has some tests on both of its sides, so a wrong one would still satisfy it: UTF-8, key seen before, known suites, frame
 -- length against content type, lengths. Here each is held to a statement of its own; they are proved in proofs/Pinned. Assumes nothing.
 use mathlib.Core.Path.{_≡_}
-use mathlib.Core.Bool.{Bool, true, false}
+use mathlib.Core.Bool.{Bool, true, false, cond}
 use mathlib.Core.Logic.{_⊎_}
 use mathlib.Core.List.{List, [], _∷_, _++_, map, List·Memᴰ}
 use Prim.Native.Nat.{ℕ, _≤_, _<_}
+use lib.Dec.{leb}
 use lib.ListN.{length}
 use Rattle.format.specs.Read.{at}
 use Rattle.format.specs.Serialize.{read, read-at, same-bytes}
@@ -36,6 +37,9 @@ pub record Decides (test : Bool) (P : Type 0) : Type 0 where
   pub then-holds : test ≡ true → P
   pub holds-then : P → test ≡ true
 
+abbrev pub number-of : SuiteRow → ℕ
+number-of r = r .number
+
 pub record Pinned : Type 0 where
   -- n bytes at a place, where there is a byte to read or the place lies within the message
   pub some-bytes : (n : ℕ) (m : List ℕ) (s : ℕ) → 0 < n → at (read n) m s ≡ read-at n m s
@@ -46,9 +50,11 @@ pub record Pinned : Type 0 where
   pub equal : (a b : List ℕ) → Decides (same-bytes a b) (a ≡ b)
   pub seen-before : (k : List ℕ) (ps : List PairAt) → Decides (seen k (map pair-of ps)) (Has k ps)
   -- the lookup is the table: eleven rows, each with its version, and no other number is known
-  pub eleven : length suites ≡ 11
+  pub eleven : map number-of suites ≡ (0x0014 ∷ 0x0046 ∷ 0x0078 ∷ 0x0114 ∷ 0x0146 ∷ 0x0178 ∷ 0x0214 ∷ 0x0346 ∷ 0x0378 ∷ 0x0478 ∷ 0x0578 ∷ [])
   pub in-a-row : (suite : ℕ) → known suite ≡ true → List·Memᴰ (row suite (suite-version suite)) suites
   pub row-of : (r : SuiteRow) → List·Memᴰ r suites → suite-version (r .number) ≡ r .version
+  -- the committing suites, 04 78 and 05 78, are of version 2, and the others of version 1
+  pub committing : (suite : ℕ) → known suite ≡ true → suite-version suite ≡ cond (leb 0x0400 suite) 2 1
   pub no-third : (suite : ℕ) → known suite ≡ true → one-or-two (suite-version suite) ≡ true
   -- versions and content types
   pub one-two : (x : ℕ) → Decides (one-or-two x) ((x ≡ 1) ⊎ (x ≡ 2))
