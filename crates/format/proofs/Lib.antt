@@ -25,5 +25,6 @@ pub mod Demand3
 pub mod Suites
 pub mod Sections
 pub mod Grammar
+pub mod Characters
 pub mod Lengths
 pub mod Pinned

@@ -18,6 +18,7 @@ use Rattle.format.proofs.Tests.{leb-is, is-leb, nleb-is, is-nleb, eqb-i
 use Rattle.format.proofs.Serialize.{read-fits, read-short}
 use Rattle.format.proofs.Firsts.{both}
 use Rattle.format.proofs.Grammar.{valid-octets, octets-valid}
+use Rattle.format.proofs.Characters.{to-characters, to-octets}
 use Rattle.format.proofs.Suites.{in-a-row, row-of, no-third, committing, eleven}
 use Rattle.format.proofs.Context.{length-pairs}
 use Rattle.format.proofs.Lengths.{lengths}
@@ -98,6 +99,7 @@ pinned =
       some-bytes = some-bytes;
       within-the-message = within-the-message;
       utf8 = λ bytes. record { then-holds = valid-octets bytes; holds-then = octets-valid };
+      characters = λ bytes. record { then-holds = λ e. to-characters (valid-octets bytes e); holds-then = λ c. octets-valid (to-octets c) };
       equal = λ a b. record { then-holds = same-equal a b; holds-then = λ e. rw (← e) (equal-same a) };
       seen-before = λ k ps. record { then-holds = seen-has k ps; holds-then = has-seen k ps };
       eleven = eleven;

@@ -14,5 +14,6 @@ pub mod First
 pub mod Refusals
 pub mod Demand3
 pub mod Sections
+pub mod Characters
 pub mod Lengths
 pub mod Pinned

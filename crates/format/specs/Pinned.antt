@@ -15,6 +15,7 @@ use Rattle.format.specs.Fields.{Pair, PairAt, pair-of, EncryptedDataKey}
 use Rattle.format.specs.Context.{seen, linear-length, write-aad-pairs}
 use Rattle.format.specs.Keys.{Max, no-max, at-most, within, write-encrypted-data-keys}
 use Rattle.format.specs.Demand3.{Has}
+use Rattle.format.specs.Characters.{Characters}
 use Rattle.format.specs.Lengths.{Lengths}
 
 -- a row's ranges, byte by byte
@@ -44,8 +45,9 @@ pub record Pinned : Type 0 where
   -- n bytes at a place, where there is a byte to read or the place lies within the message
   pub some-bytes : (n : ℕ) (m : List ℕ) (s : ℕ) → 0 < n → at (read n) m s ≡ read-at n m s
   pub within-the-message : (n : ℕ) (m : List ℕ) (s : ℕ) → s ≤ length m → at (read n) m s ≡ read-at n m s
-  -- the grammar of RFC 3629
+  -- the grammar of RFC 3629, and the character numbers that it stands for
   pub utf8 : (bytes : List ℕ) → Decides (valid-utf8-seq bytes) (Octets bytes)
+  pub characters : (bytes : List ℕ) → Decides (valid-utf8-seq bytes) (Characters bytes)
   -- two keys are equal when their bytes are, and a key was seen when a pair has it
   pub equal : (a b : List ℕ) → Decides (same-bytes a b) (a ≡ b)
   pub seen-before : (k : List ℕ) (ps : List PairAt) → Decides (seen k (map pair-of ps)) (Has k ps)
