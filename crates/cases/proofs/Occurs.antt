@@ -17,7 +17,7 @@ use Rattle.format.specs.Refusals.{section-refusals, context-refusals, find-refu
 use Rattle.format.proofs.Tests.{is-eqb}
 use Rattle.format.proofs.Suites.{every-member}
 use Rattle.format.proofs.Messages.{refused-stays}
-use Rattle.format.proofs.Pinned.{or-cases}
+use Rattle.format.proofs.Firsts.{or-cases}
 use Rattle.cases.specs.Occurs.{Answers, listed-for, Occurs}
 use Rattle.cases.proofs.Calls.{number-of, Call, calls, said, sections, far-and-short, section-answers, opening-bytes, is-v1, body-calls, body-answers, old-form, strict-section, strict-body, no-table, no-pair, key-calls, key-answers, auth-said, auth-calls, auth-answers}
 

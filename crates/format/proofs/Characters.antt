@@ -1,16 +1,16 @@
 -- The rows of RFC 3629's section 4 are the character numbers of its section 3. Assumes nothing.
 use mathlib.Core.Path.{_≡_, refl}
-use mathlib.Core.Bool.{Bool, true, false}
+use mathlib.Core.Bool.{Bool, true, false, _&&_, _||_}
 use mathlib.Core.Logic.{_⊎_, inl, inr, ⊎-elim}
 use mathlib.Core.List.{List, [], _∷_, _++_}
 use Prim.Native.Nat.{ℕ, _+_, _*_, _-_, _≤_, _<_}
 use native.Mathlib.Omega.{arith}
-use lib.Dec.{leb}
+use lib.Dec.{leb, ltb}
 use Rattle.format.specs.Utf8.{Range, _‥_, has, tail, rows}
 use Rattle.format.specs.Pinned.{Match, done, byte, In, here, there, Octets, none, char}
 use Rattle.format.specs.Characters.{Character, one, two, three, four, Characters, empty, more}
 use Rattle.format.proofs.Tests.{leb-is, is-leb, is-nleb}
-use Rattle.format.proofs.Firsts.{both, and}
+use Rattle.format.proofs.Firsts.{both, and, or-cases}
 
 -- a row's ranges against bytes, computed
 abbrev Matches : List Range → List ℕ → Type 0
@@ -87,40 +87,42 @@ four-bytes lo hi lo₂ hi₂ h₁ h₃ h₄ low high (a ∷ b ∷ c ∷ d ∷ []
     (four (a - 0xF0) (b - 0x80) (c - 0x80) (d - 0x80) (omega arith) (omega arith) (omega arith) (omega arith) (omega arith))
 four-bytes lo hi lo₂ hi₂ h₁ h₃ h₄ low high (a ∷ b ∷ c ∷ d ∷ e ∷ l) (p, (q, (r, (t, m)))) = absurd m
 
+-- the bounds of a row, computed
+abbrev fits-3 : ℕ → ℕ → ℕ → ℕ → Bool
+fits-3 lo hi lo₂ hi₂ =
+    leb 0xE0 lo && (leb hi 0xEF && (leb 0x80 lo₂ && (leb hi₂ 0xBF && (leb (925696 + 0x800) (4096 * lo + 64 * lo₂)
+    && (ltb (4096 * hi + 64 * hi₂ + 63) (925696 + 0xD800) || ltb (925696 + 0xDFFF) (4096 * lo + 64 * lo₂))))))
+
+row-3 : (lo hi lo₂ hi₂ : ℕ) → fits-3 lo hi lo₂ hi₂ ≡ true → Good (lo ‥ hi ∷ lo₂ ‥ hi₂ ∷ tail ∷ [])
+row-3 lo hi lo₂ hi₂ e =
+    let (e₁, r₁) = both _ _ e in
+    let (e₂, r₂) = both _ _ r₁ in
+    let (e₃, r₃) = both _ _ r₂ in
+    let (e₄, r₄) = both _ _ r₃ in
+    let (e₅, r₅) = both _ _ r₄ in
+    three-bytes lo hi lo₂ hi₂ (is-leb _ _ e₁) (is-leb _ _ e₂) (is-leb _ _ e₃) (is-leb _ _ e₄) (is-leb _ _ e₅)
+    (⊎-elim (λ h. inl (is-leb _ _ h)) (λ h. inr (is-leb _ _ h)) (or-cases _ _ r₅))
+
+abbrev fits-4 : ℕ → ℕ → ℕ → ℕ → Bool
+fits-4 lo hi lo₂ hi₂ =
+    leb 0xF0 lo && (leb 0x80 lo₂ && (leb hi₂ 0xBF && (leb (63438848 + 0x10000) (262144 * lo + 4096 * lo₂) && leb (262144 * hi + 4096 * hi₂ + 4095) (63438848 + 0x10FFFF))))
+
+row-4 : (lo hi lo₂ hi₂ : ℕ) → fits-4 lo hi lo₂ hi₂ ≡ true → Good (lo ‥ hi ∷ lo₂ ‥ hi₂ ∷ tail ∷ tail ∷ [])
+row-4 lo hi lo₂ hi₂ e =
+    let (e₁, r₁) = both _ _ e in
+    let (e₂, r₂) = both _ _ r₁ in
+    let (e₃, r₃) = both _ _ r₂ in
+    let (e₄, e₅) = both _ _ r₃ in
+    four-bytes lo hi lo₂ hi₂ (is-leb _ _ e₁) (is-leb _ _ e₂) (is-leb _ _ e₃) (is-leb _ _ e₄) (is-leb _ _ e₅)
+
 abbrev EachGood : List (List Range) → Type 0
 EachGood [] = Unit {0}
 EachGood (row ∷ rs) = Good row × EachGood rs
 
 each-good : EachGood rows
 unfolding rows
-each-good = (
-  one-byte,
-  (
-    two-bytes,
-    (
-      three-bytes 0xE0 0xE0 0xA0 0xBF (omega arith) (omega arith) (omega arith) (omega arith) (omega arith) (inl (omega arith)),
-      (
-        three-bytes 0xE1 0xEC 0x80 0xBF (omega arith) (omega arith) (omega arith) (omega arith) (omega arith) (inl (omega arith)),
-        (
-          three-bytes 0xED 0xED 0x80 0x9F (omega arith) (omega arith) (omega arith) (omega arith) (omega arith) (inl (omega arith)),
-          (
-            three-bytes 0xEE 0xEF 0x80 0xBF (omega arith) (omega arith) (omega arith) (omega arith) (omega arith) (inr (omega arith)),
-            (
-              four-bytes 0xF0 0xF0 0x90 0xBF (omega arith) (omega arith) (omega arith) (omega arith) (omega arith),
-              (
-                four-bytes 0xF1 0xF3 0x80 0xBF (omega arith) (omega arith) (omega arith) (omega arith) (omega arith),
-                (
-                  four-bytes 0xF4 0xF4 0x80 0x8F (omega arith) (omega arith) (omega arith) (omega arith) (omega arith),
-                  tt,
-                ),
-              ),
-            ),
-          ),
-        ),
-      ),
-    ),
-  ),
-)
+each-good =
+    (one-byte, (two-bytes, (row-3 _ _ _ _ refl, (row-3 _ _ _ _ refl, (row-3 _ _ _ _ refl, (row-3 _ _ _ _ refl, (row-4 _ _ _ _ refl, (row-4 _ _ _ _ refl, (row-4 _ _ _ _ refl, tt)))))))))
 
 good-in : {row : List Range} {rs : List (List Range)} → In row rs → EachGood rs → Good row
 good-in here (g, gs) = g

@@ -16,17 +16,13 @@ use Rattle.format.specs.Keys.{write-encrypted-data-key, write-encrypted-
 use Rattle.format.specs.Pinned.{Decides, Pinned}
 use Rattle.format.proofs.Tests.{leb-is, is-leb, nleb-is, is-nleb, eqb-is, is-eqb, neqb-is}
 use Rattle.format.proofs.Serialize.{read-fits, read-short}
-use Rattle.format.proofs.Firsts.{both}
+use Rattle.format.proofs.Firsts.{both, or-cases}
 use Rattle.format.proofs.Grammar.{valid-octets, octets-valid}
 use Rattle.format.proofs.Characters.{to-characters, to-octets}
 use Rattle.format.proofs.Suites.{in-a-row, row-of, no-third, committing, eleven}
 use Rattle.format.proofs.Context.{length-pairs}
 use Rattle.format.proofs.Lengths.{lengths}
 use Rattle.format.proofs.Find.{same-equal, equal-same, seen-has, has-seen}
-
-pub or-cases : (a b : Bool) → (a || b) ≡ true → (a ≡ true) ⊎ (b ≡ true)
-or-cases true b e = inl refl
-or-cases false b e = inr e
 
 or-right : (a : Bool) {b : Bool} → b ≡ true → (a || b) ≡ true
 or-right true e = refl
