@@ -59,9 +59,9 @@ pub record SuiteOk (version suite : ℕ) : Type 0 where
 suite-exact : (version : ℕ) → Exact (read-esdk-suite-id version) (SuiteOk version) write-uint16 itself
 unfolding read-esdk-suite-id
 suite-exact version =
-    revalue (SuiteOk version) write-uint16 itself (seq-exact _ uint16-exact λ s suite. check-exact 6 _ (check-exact 7 _ (give-exact _)))
-    (λ w o. (w .0, record { wide = o .0; t6 = o .1 .0; t7 = o .1 .1 .0 }, append-nil _, λ s. refl))
-    (λ suite o. ((suite, tt), (o .wide, (o .t6, (o .t7, tt))), sym (append-nil _), λ s. refl))
+    revalue (SuiteOk version) write-uint16 itself (seq-exact _ uint16-exact λ s suite. check-exact _ _ (check-exact _ _ (give-exact _)))
+    (λ w o. (w .0, search, append-nil _, λ s. refl))
+    (λ suite o. ((suite, tt), search, sym (append-nil _), λ s. refl))
 
 -- after the version byte; true: version 1
 pub record Rest : Type 0 where

@@ -76,7 +76,7 @@ two-goes = bind-goes (text-goes 10) (λ k. bind-goes (text-goes 11) (λ v. retur
 
 pair-goes : (acc : List PairAt) → Goes (read-next-aad-pair acc) (pair-list acc) pair-here pair-end
 unfolding read-next-aad-pair pair-list entry-list
-pair-goes acc = bind-goes two-goes (λ p. not-goes 12 (seen (p .key .bytes) (map pair-of acc)) (test-goes 13 _ (return-goes p)))
+pair-goes acc = bind-goes two-goes (λ p. not-goes 12 (seen (p .key .bytes) (map pair-of acc)) (test-goes _ _ (return-goes p)))
 
 -- 8, 21 and 9 in document 01's words: the definition tests 21 once 8 has passed
 in-words : (two zero strictly : Bool) (x y : Line) (rest : List Line)
@@ -95,7 +95,7 @@ context-of-goes : (mode : Mode) (b : Bool) (n : ℕ) → Goes (read-aad-of mode 
 unfolding read-aad-of read-aad context-list-of
 context-of-goes mode true n = return-goes []
 context-of-goes mode false n =
-    goes-as (framed-goes n 14 (bind-goes uint16-goes (λ count. test-goes 8 _ (test-goes 21 _ (test-goes 9 _ (repeat-goes pair-goes count []))))))
+    goes-as (framed-goes n 14 (bind-goes uint16-goes (λ count. test-goes _ _ (test-goes _ _ (test-goes _ _ (repeat-goes pair-goes count []))))))
     (λ m s. in-words (eqb n 2) (eqb (number16 m s) 0) (is-strict mode) _ _ _)
     (λ m s e. (refl, refl))
 
@@ -109,7 +109,7 @@ context-goes mode = goes-as (bind-goes uint16-goes (λ n. context-of-goes mode (
 
 pub context-into-goes : (mode : Mode) (room : ℕ) → Goes (read-aad-section-into mode room) (context-into-list mode room) section-pairs entry-end
 unfolding read-aad-section-into context-into-list
-context-into-goes mode room = bind-goes (context-goes mode) (λ ps. test-goes 22 _ (return-goes ps))
+context-into-goes mode room = bind-goes (context-goes mode) (λ ps. test-goes _ _ (return-goes ps))
 
 -- the key section
 key-goes : Goes read-encrypted-data-key key-list key-here key-end
@@ -118,8 +118,8 @@ key-goes = bind-goes (text-goes 16) (λ p. bind-goes entry-goes (λ i. bind-goes
 
 pub keys-goes : (max : Max) → Goes (read-encrypted-data-keys-section max) (keys-list max) section-keys section-keys-end
 unfolding read-encrypted-data-keys-section keys-list
-keys-goes max = bind-goes uint16-goes (λ count. test-goes 15 _ (repeat-goes (λ acc. key-goes) count []))
+keys-goes max = bind-goes uint16-goes (λ count. test-goes _ _ (repeat-goes (λ acc. key-goes) count []))
 
 pub keys-into-goes : (max : Max) (room : ℕ) → Goes (read-encrypted-data-keys-section-into max room) (keys-into-list max room) section-keys section-keys-end
 unfolding read-encrypted-data-keys-section-into keys-into-list
-keys-into-goes max room = bind-goes (keys-goes max) (λ ks. test-goes 23 _ (return-goes ks))
+keys-into-goes max room = bind-goes (keys-goes max) (λ ks. test-goes _ _ (return-goes ks))

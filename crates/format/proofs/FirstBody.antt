@@ -32,20 +32,20 @@ opening-end false s = s + 2 + 32
 
 suite-goes : (version : ℕ) → Goes (read-esdk-suite-id version) (λ m s. lacks 2 m s ∷ unless 6 (known (number16 m s)) ∷ unless 7 (of-version version (number16 m s)) ∷ []) number16 (λ m s. s + 2)
 unfolding read-esdk-suite-id
-suite-goes version = bind-goes uint16-goes (λ x. test-goes 6 _ (test-goes 7 _ (return-goes x)))
+suite-goes version = bind-goes uint16-goes (λ x. test-goes _ _ (test-goes _ _ (return-goes x)))
 
 opening-of-goes : (b : Bool) → Goes (read-opening-of b) (opening-list-of b) (opening-here b) (λ m s. opening-end b s)
 unfolding read-opening-of opening-list-of opening-here opening-end
-opening-of-goes true = bind-goes uint8-goes (λ t. test-goes 5 _ (bind-goes (suite-goes 1) (λ x. bind-goes (read-goes 16) (λ id. return-goes _))))
+opening-of-goes true = bind-goes uint8-goes (λ t. test-goes _ _ (bind-goes (suite-goes 1) (λ x. bind-goes (read-goes 16) (λ id. return-goes _))))
 opening-of-goes false = bind-goes (suite-goes 2) (λ x. bind-goes (read-goes 32) (λ id. return-goes _))
 
 version-goes : Goes read-message-format-version (λ m s. lacks 1 m s ∷ unless 3 (one-or-two (number8 m s)) ∷ []) number8 (λ m s. s + 1)
 unfolding read-message-format-version
-version-goes = bind-goes uint8-goes (λ v. test-goes 3 _ (return-goes v))
+version-goes = bind-goes uint8-goes (λ v. test-goes _ _ (return-goes v))
 
 opening-goes : (which : Which) → Goes (read-opening which) (opening-list which) (λ m s. opening-here (eqb (number8 m s) 1) m (s + 1)) (λ m s. s + by (number8 m s) 20 35)
 unfolding read-opening opening-list opening-end
-opening-goes which = goes-as (bind-goes version-goes (λ v. test-goes 4 _ (opening-of-goes (eqb v 1)))) (λ m s. refl) (λ m s e. (refl, ends (eqb (number8 m s) 1) s))
+opening-goes which = goes-as (bind-goes version-goes (λ v. test-goes _ _ (opening-of-goes (eqb v 1)))) (λ m s. refl) (λ m s e. (refl, ends (eqb (number8 m s) 1) s))
   where
     ends : (b : Bool) (s : ℕ) → opening-end b (s + 1) ≡ s + cond b 20 35
     ends true s = omega arith
@@ -63,12 +63,12 @@ closing-end false s = s + 1 + 4 + 32
 
 content-goes : Goes read-content-type (λ m s. lacks 1 m s ∷ unless 17 (one-or-two (number8 m s)) ∷ []) number8 (λ m s. s + 1)
 unfolding read-content-type
-content-goes = bind-goes uint8-goes (λ v. test-goes 17 _ (return-goes v))
+content-goes = bind-goes uint8-goes (λ v. test-goes _ _ (return-goes v))
 
 closing-goes : (b : Bool) → Goes (read-closing b) (closing-list b) (closing-here b) (λ m s. closing-end b s)
 unfolding read-closing read-closing-of closing-list closing-list-of closing-here closing-end
 closing-goes true =
-    bind-goes content-goes (λ c. bind-goes uint32-goes (λ r. test-goes 18 _ (bind-goes uint8-goes (λ i. test-goes 19 _ (bind-goes uint32-goes (λ f. return-goes _))))))
+    bind-goes content-goes (λ c. bind-goes uint32-goes (λ r. test-goes _ _ (bind-goes uint8-goes (λ i. test-goes _ _ (bind-goes uint32-goes (λ f. return-goes _))))))
 closing-goes false = bind-goes content-goes (λ c. bind-goes uint32-goes (λ f. bind-goes (read-goes 32) (λ x. return-goes _)))
 
 -- a body: what its closing is like goes by the version that was read
@@ -104,7 +104,7 @@ module _ (q : Request) where
   body-goes =
       goes-as
       (bind-goes (opening-goes (q .which)) (λ o. bind-goes (context-goes (q .mode)) (λ ps. bind-goes (keys-goes (q .max)) (λ ks. bind-goes (closing-goes (eqb (o .version) 1)) (λ c.
-      test-goes 20 _ (test-goes 22 _ (test-goes 23 _ (return-goes (whole o ps ks c)))))))))
+      test-goes _ _ (test-goes _ _ (test-goes _ _ (return-goes (whole o ps ks c)))))))))
       (λ m s. rw (is-v1 (eqb (number8 m s) 1) m (s + 1), content-is, frame-is) refl)
       (λ m s e. (rw (is-v1 (eqb (number8 m s) 1) m (s + 1)) refl, rw (is-v1 (eqb (number8 m s) 1) m (s + 1)) refl))
 
@@ -139,7 +139,7 @@ auth-of-goes false = bind-goes (read-goes 16) (λ tag. return-goes _)
 
 auth-goes : (suite : ℕ) → Goes (read-header-auth-tag suite) (auth-list suite) (auth-here (eqb (suite-version suite) 1)) (λ m s. cond (eqb (suite-version suite) 1) (s + 12 + 16) (s + 16))
 unfolding read-header-auth-tag auth-list
-auth-goes suite = test-goes 6 _ (auth-of-goes (eqb (suite-version suite) 1))
+auth-goes suite = test-goes _ _ (auth-of-goes (eqb (suite-version suite) 1))
 
 -- an operation: 1, and then its list
 module _ {A : Type 0} {r : Reader A} {list : List ℕ → ℕ → List Line} {value : List ℕ → ℕ → A} {end : List ℕ → ℕ → ℕ} (h : Goes r list value end) (m : List ℕ) (s : ℕ) where
