@@ -1,12 +1,19 @@
 -- Looking a number up, row by row, for any table; and the rule over the whole table of suites. Assumes nothing.
 use mathlib.Core.Path.{_≡_, refl, sym, ap, _∙_}
-use mathlib.Core.List.{List, map}
-use Prim.Native.Nat.{ℕ, _+_, _<_, _≤_}
+use mathlib.Core.Bool.{Bool, true, false, not, _&&_}
+use mathlib.Core.List.{List, [], _∷_, map}
+use Prim.Native.Nat.{ℕ, zero, suc, _+_, _<_, _≤_}
+use native.Mathlib.Nat.{not-suc-le-zero, le-of-suc-le-suc}
 use native.Mathlib.Numerals.{add-one}
 use lib.ListN.{length, drop, getD, drop-of-length-le, List·getD-map}
+use lib.Dec.{eqb, ltb}
 use lib.Seq.{drop-cons}
-use borrow.Author.Tests.{eq-eqb, ne-eqb}
-use Rattle.format.specs.Shared.{SuiteRow, row, suites, version-in, suite-version}
+use borrow.Author.Tests.{eq-eqb, ne-eqb, ltb-true, not-true}
+use Rattle.format.specs.Serialize.{every}
+use Rattle.format.specs.Shared.{SuiteRow, row, suites, version-in, suite-version, known}
+use Rattle.format.proofs.Firsts.{both}
+use Rattle.format.proofs.Suites.{every-member, in-a-row}
+use Rattle.suites.specs.declared.SuiteRow.{SuiteRow as Row}
 use Rattle.suites.specs.declared.SuiteAnswer.the-variants.{Known, Unknown}
 use Rattle.suites.specs.Table.{row-of, by-version, suite-of}
 
@@ -29,10 +36,35 @@ pub none : (t : List SuiteRow) (n i : ℕ) → length t ≤ i → version-in (dr
 unfolding version-in
 none t n i h = rw (drop-of-length-le t h)
 
--- a suite, by its version
-module _ (n v : ℕ) (is : v ≡ suite-version n) where
-  pub unknown : v ≡ 0 → Unknown ≡ suite-of n
-  unknown e = sym (ap (by-version n) (sym is ∙ e))
+-- every row has a version, so that 0 says that there is none; and a number of 16 bits
+is-row : SuiteRow → Bool
+is-row r = not (eqb (r .version) 0) && ltb (r .number) 65536
 
-  pub found : (v ≡ 0 → ⊥) → Known (record { number = n; version = v }) ≡ suite-of n
-  found h = sym (ap (by-version n) (sym is) ∙ rw (ne-eqb v 0 h))
+all-rows : every is-row suites ≡ true
+unfolding every is-row suites
+all-rows = refl
+
+pub fits : (n : ℕ) → known n ≡ true → n < 65536
+unfolding is-row
+fits n e = ltb-true _ _ (both (not (eqb (suite-version n) 0)) (ltb n 65536) (every-member is-row suites all-rows (row n (suite-version n)) (in-a-row n e)) .1)
+
+every-at : (f : SuiteRow → Bool) (t : List SuiteRow) → every f t ≡ true → (i : ℕ) → i < length t → f (getD t i (row 0 0)) ≡ true
+unfolding every
+every-at f [] e i h = absurd (not-suc-le-zero h)
+every-at f (r ∷ t) e zero h = both (f r) (every f t) e .0
+every-at f (r ∷ t) e (suc i) h = every-at f t (both (f r) (every f t) e .1) i (le-of-suc-le-suc h)
+
+-- a suite by its version, and so by its row
+known-as : (n k v : ℕ) → k ≡ n → v ≡ suite-version n → eqb v 0 ≡ false → Known (record { number = k; version = v }) ≡ suite-of n
+known-as n k v e is some = rw e (sym (ap (by-version n) (sym is) ∙ rw some))
+
+pub known-at : (n i : ℕ) → i < length suites → version-in (drop i suites) n ≡ suite-version n → getD (map row-of suites) i (row-of (row 0 0)) .number ≡ n
+    → Known (record { number = getD (map row-of suites) i (row-of (row 0 0)) .number; version = getD (map row-of suites) i (row-of (row 0 0)) .version }) ≡ suite-of n
+unfolding is-row
+known-at n i h left e =
+    let r = getD suites i (row 0 0) in
+    let some = both (not (eqb (r .version) 0)) (ltb (r .number) 65536) (every-at is-row suites all-rows i h) .0 in
+    known-as n _ _ e (sym (hit suites n i h e) ∙ left) (not-true _ (ap (λ (x : Row). not (eqb (x .version) 0)) (List·getD-map row-of suites i (row 0 0)) ∙ some))
+
+pub unknown-at : (n i : ℕ) → length suites ≤ i → version-in (drop i suites) n ≡ suite-version n → Unknown ≡ suite-of n
+unknown-at n i h left = sym (ap (by-version n) (sym left ∙ none suites n i h))

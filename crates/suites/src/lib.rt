@@ -1,16 +1,15 @@
 // The suite table, looking a suite up in it, and the constants that belong to a suite.
 ghost use mathlib.Core.Path.{_≡_};
 ghost use Prim.Native.Nat.{_+_, _*_};
-ghost use Rattle.format.specs.Shared.{suite-version};
 ghost use Rattle.suites.specs.Table.{suite-of};
 
-pub struct SuiteRow {
-    pub number: u16,
-    pub version: u8,
+struct SuiteRow {
+    number: u16,
+    version: u8,
 }
 
 // From the specification of the AWS Encryption SDK; the suites of version 2 are the committing ones.
-pub const SUITES: [SuiteRow; 11] = [
+const SUITES: [SuiteRow; 11] = [
     SuiteRow {
         number: 0x0014,
         version: 1,
@@ -57,21 +56,6 @@ pub const SUITES: [SuiteRow; 11] = [
     },
 ];
 
-// The version of the suite with the number; 0 where the table has none.
-pub fn suite_version(number: u16) -> u8
-    ensures { λ r. ⌜ r ≡ suite-version number ⌝ }
-{
-    let mut i: usize = 0;
-    while i < 11 {
-        let row = SUITES[i];
-        if row.number == number {
-            return row.version;
-        }
-        i += 1;
-    }
-    0
-}
-
 // A suite of the table.
 pub struct Suite {
     pub number: u16,
@@ -91,20 +75,28 @@ impl Suite {
     // Only the suites of version 2 have a commit key.
     pub const COMMIT_LEN: usize = 32;
 
-    pub fn from_number(number: u16) -> SuiteAnswer
+    // A number as a host hands it over: one wider than 16 bits is in no row.
+    pub fn from_number(number: u32) -> SuiteAnswer
         ensures { λ r. ⌜ r ≡ suite-of number ⌝ }
     {
-        let version = suite_version(number);
-        if version == 0 {
-            return SuiteAnswer::Unknown;
+        let mut i: usize = 0;
+        while i < 11 {
+            let row = SUITES[i];
+            if row.number as u32 == number {
+                return SuiteAnswer::Known(Suite {
+                    number: row.number,
+                    version: row.version,
+                });
+            }
+            i += 1;
         }
-        SuiteAnswer::Known(Suite { number, version })
+        SuiteAnswer::Unknown
     }
 
     // By the two bytes as they are stored.
     pub fn from_bytes(high: u8, low: u8) -> SuiteAnswer
         ensures { λ r. ⌜ r ≡ suite-of (high * 256 + low) ⌝ }
     {
-        Suite::from_number((high as u16) * 256 + (low as u16))
+        Suite::from_number((high as u32) * 256 + (low as u32))
     }
 }
