@@ -78,7 +78,7 @@ module _ (content : ℕ) (m : List ℕ) (s : ℕ) (x : Number) (x-is : x ≡ num
               rw (f, e, go _ uint32-tidy m s reserved a reserved-read, pass 18 _ _ m a (eq-eqb reserved 0 zero), go _ uint8-tidy m a iv b iv-read, pass 19 _ _ m b (eq-eqb iv 12 twelve), stop _ uint32-tidy m b _ _ (number-no (at read-uint32 m b) z z-is q e))
 
           pub v1-whole : (frame t : ℕ) → z ≡ number.Is frame t
-              → closing.Is (record { contentType = content; headerIvLength = iv; frameLength = frame; suiteData = 0; suiteDataLen = 0 }) t ≡ closing-of (at (read-closing-of true content) m s)
+              → closing.Is (record { contentType = content; headerIvLength = iv; frameLength = frame; suiteDataStart = 0; suiteDataLen = 0 }) t ≡ closing-of (at (read-closing-of true content) m s)
           unfolding read-closing-of
           v1-whole frame t e =
               rw (go _ uint32-tidy m s reserved a reserved-read, pass 18 _ _ m a (eq-eqb reserved 0 zero), go _ uint8-tidy m a iv b iv-read, pass 19 _ _ m b (eq-eqb iv 12 twelve), go _ uint32-tidy m b frame t (number-got (at read-uint32 m b) z z-is frame t e), gives _ m t)
@@ -98,7 +98,7 @@ module _ (content : ℕ) (m : List ℕ) (s : ℕ) (x : Number) (x-is : x ≡ num
     v2-no-data q e w f = rw (f, e, go _ uint32-tidy m s frame a frame-read, stop _ (read-tidy 32) m a _ _ (span-no (at (read 32) m a) y y-is q e))
 
     pub v2-whole : (i n t : ℕ) → y ≡ span.At i n t
-        → closing.Is (record { contentType = content; headerIvLength = 0; frameLength = frame; suiteData = i; suiteDataLen = n }) t ≡ closing-of (at (read-closing-of false content) m s)
+        → closing.Is (record { contentType = content; headerIvLength = 0; frameLength = frame; suiteDataStart = i; suiteDataLen = n }) t ≡ closing-of (at (read-closing-of false content) m s)
     unfolding read-closing-of
     v2-whole i n t e =
         let g = span-got (at (read 32) m a) y y-is i n t e in

@@ -71,7 +71,7 @@ module _ (version messageType size : ℕ) (m : List ℕ) (s : ℕ) (x : Number) 
     id-none q e w f = rw (f, e, go _ (suite-tidy version) m s suite a suite-read, stop _ (read-tidy size) m a _ _ (span-no (at (read size) m a) y y-is q e))
 
     pub id-whole : (i n t : ℕ) → y ≡ span.At i n t
-        → opening.Is (record { version = version; messageType = messageType; suite = suite; messageId = i; messageIdLen = n }) t ≡ opening-of (at (read-suite-and-id version messageType size) m s)
+        → opening.Is (record { version = version; messageType = messageType; suite = suite; messageIdStart = i; messageIdLen = n }) t ≡ opening-of (at (read-suite-and-id version messageType size) m s)
     unfolding read-suite-and-id
     id-whole i n t e =
         let g = span-got (at (read size) m a) y y-is i n t e in
@@ -91,9 +91,9 @@ module _ (m : List ℕ) (s : ℕ) (x : Number) (x-is : x ≡ number-of (at read-
     unfolding read-opening-of
     v1-5 h f = f ∙ sym (rw (go _ uint8-tidy m s messageType a type-read, fail 5 _ _ m a (ne-eqb messageType 128 h)))
 
-    pub v1-then : messageType ≡ 128 → r ≡ opening-of (at (read-suite-and-id 1 messageType 16) m a) → r ≡ opening-of (at (read-opening-of true) m s)
+    pub v1-then : messageType ≡ 128 → r ≡ opening-of (at (read-suite-and-id 1 128 16) m a) → r ≡ opening-of (at (read-opening-of true) m s)
     unfolding read-opening-of read-suite-and-id
-    v1-then h f = f ∙ sym (rw (go _ uint8-tidy m s messageType a type-read, pass 5 _ _ m a (eq-eqb messageType 128 h)))
+    v1-then h f = f ∙ sym (rw (go _ uint8-tidy m s messageType a type-read, pass 5 _ _ m a (eq-eqb messageType 128 h), h))
 
 -- version 2
 pub v2-is : (m : List ℕ) (s : ℕ) (r : OpeningAnswer) → r ≡ opening-of (at (read-suite-and-id 2 0 32) m s) → r ≡ opening-of (at (read-opening-of false) m s)

@@ -34,7 +34,7 @@ opening-code o =
       version = o .version;
       messageType = o .messageType;
       suite = o .suite;
-      messageId = o .messageId .start;
+      messageIdStart = o .messageId .start;
       messageIdLen = length (o .messageId .bytes);
     }
 
@@ -48,7 +48,7 @@ closing-code c =
       contentType = c .contentType;
       headerIvLength = c .headerIvLength;
       frameLength = c .frameLength;
-      suiteData = c .suiteData .start;
+      suiteDataStart = c .suiteData .start;
       suiteDataLen = length (c .suiteData .bytes);
     }
 

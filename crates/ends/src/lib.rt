@@ -1,6 +1,6 @@
 // The two ends of a header body: the opening, which stands before the context section, and the closing, which stands behind
 // the key section.
-pub mod shared;
+mod shared;
 
 use request::Which;
 use suites::Suite;
@@ -21,12 +21,12 @@ ghost use Rattle.wire.specs.Codes.{because};
 ghost use Rattle.request.specs.Codes.{which-of};
 ghost use Rattle.ends.specs.Codes.{read-suite-and-id, opening-of, closing-of, why-opening, why-closing};
 
-// The ID's start and length are those of its place in the message.
+// The ID by its place in the message.
 pub struct Opening {
-    pub version: u64,
-    pub messageType: u64,
-    pub suite: u64,
-    pub messageId: u64,
+    pub version: u32,
+    pub messageType: u32,
+    pub suite: u32,
+    pub messageIdStart: u64,
     pub messageIdLen: u64,
 }
 
@@ -35,12 +35,12 @@ pub enum OpeningAnswer {
     Not(Refusal),
 }
 
-// The start and length of the suite data are those of its place in the message.
+// The suite data by their place in the message.
 pub struct Closing {
-    pub contentType: u64,
-    pub headerIvLength: u64,
-    pub frameLength: u64,
-    pub suiteData: u64,
+    pub contentType: u32,
+    pub headerIvLength: u32,
+    pub frameLength: u32,
+    pub suiteDataStart: u64,
     pub suiteDataLen: u64,
 }
 
@@ -103,7 +103,7 @@ fn is_asked(which: Which, version: u64) -> bool
 }
 
 // What both versions have before the context section, behind the version and the type.
-fn read_suite_and_id(m: &[u8], s: u64, version: u64, messageType: u64, idLen: u64) -> OpeningAnswer
+fn read_suite_and_id(m: &[u8], s: u64, version: u32, messageType: u32, idLen: u64) -> OpeningAnswer
     requires { ⌜ (s < 4294967296) × (length (now m) < 4294967296) × (0 < idLen) × (idLen < 65536) ⌝ }
     ensures { λ r. ⌜ r ≡ opening-of (at (read-suite-and-id version messageType idLen) (now (m .entry)) s) ⌝ }
 {
@@ -117,7 +117,7 @@ fn read_suite_and_id(m: &[u8], s: u64, version: u64, messageType: u64, idLen: u6
     };
     let y = reading::read_some_bytes(m, id, idLen);
     let Span::At {
-        start: messageId,
+        start: messageIdStart,
         len: messageIdLen,
         tail,
     } = y
@@ -127,8 +127,8 @@ fn read_suite_and_id(m: &[u8], s: u64, version: u64, messageType: u64, idLen: u6
     let opening = Opening {
         version,
         messageType,
-        suite,
-        messageId,
+        suite: suite as u32,
+        messageIdStart,
         messageIdLen,
     };
     OpeningAnswer::Is { opening, tail }
@@ -148,7 +148,7 @@ fn read_opening_v1(m: &[u8], s: u64) -> OpeningAnswer
         return OpeningAnswer::Not(x.refusal());
     };
     if messageType == 0x80 {
-        return read_suite_and_id(m, tail, 1, messageType, 16);
+        return read_suite_and_id(m, tail, 1, 0x80, 16);
     }
     no_opening(refusals::MESSAGE_TYPE)
 }
@@ -183,7 +183,7 @@ pub fn read_opening(m: &[u8], s: u64, which: Which) -> OpeningAnswer
 }
 
 // Version 1, after the content type: reserved bytes, the length of the IV, and no suite data.
-fn read_closing_v1(m: &[u8], s: u64, contentType: u64) -> ClosingAnswer
+fn read_closing_v1(m: &[u8], s: u64, contentType: u32) -> ClosingAnswer
     requires { ⌜ (s < 4294967296) × (length (now m) < 4294967296) ⌝ }
     ensures { λ r. ⌜ r ≡ closing-of (at (read-closing-of true contentType) (now (m .entry)) s) ⌝ }
 {
@@ -215,16 +215,16 @@ fn read_closing_v1(m: &[u8], s: u64, contentType: u64) -> ClosingAnswer
     };
     let closing = Closing {
         contentType,
-        headerIvLength,
-        frameLength,
-        suiteData: 0,
+        headerIvLength: headerIvLength as u32,
+        frameLength: frameLength as u32,
+        suiteDataStart: 0,
         suiteDataLen: 0,
     };
     ClosingAnswer::Is { closing, tail }
 }
 
 // Version 2, after the content type: the suite data are the commit key.
-fn read_closing_v2(m: &[u8], s: u64, contentType: u64) -> ClosingAnswer
+fn read_closing_v2(m: &[u8], s: u64, contentType: u32) -> ClosingAnswer
     requires { ⌜ (s < 4294967296) × (length (now m) < 4294967296) ⌝ }
     ensures { λ r. ⌜ r ≡ closing-of (at (read-closing-of false contentType) (now (m .entry)) s) ⌝ }
 {
@@ -238,7 +238,7 @@ fn read_closing_v2(m: &[u8], s: u64, contentType: u64) -> ClosingAnswer
     };
     let y = reading::read_some_bytes(m, data, Suite::COMMIT_LEN as u64);
     let Span::At {
-        start: suiteData,
+        start: suiteDataStart,
         len: suiteDataLen,
         tail,
     } = y
@@ -248,25 +248,26 @@ fn read_closing_v2(m: &[u8], s: u64, contentType: u64) -> ClosingAnswer
     let closing = Closing {
         contentType,
         headerIvLength: 0,
-        frameLength,
-        suiteData,
+        frameLength: frameLength as u32,
+        suiteDataStart,
         suiteDataLen,
     };
     ClosingAnswer::Is { closing, tail }
 }
 
-pub fn read_closing(m: &[u8], s: u64, version: u64) -> ClosingAnswer
+pub fn read_closing(m: &[u8], s: u64, version: u32) -> ClosingAnswer
     requires { ⌜ (s < 4294967296) × (length (now m) < 4294967296) ⌝ }
     ensures { λ r. ⌜ r ≡ closing-of (at (read-closing (eqb version 1)) (now (m .entry)) s) ⌝ }
 {
     let x = shared::read_content_type(m, s);
     let Number::Is {
-        value: contentType,
+        value: content,
         tail,
     } = x
     else {
         return ClosingAnswer::Not(x.refusal());
     };
+    let contentType = content as u32;
     if version == 1 {
         return read_closing_v1(m, tail, contentType);
     }
