@@ -1,16 +1,16 @@
 -- The ways out of the functions that read an authentication record, one law each. Assumes nothing.
 use mathlib.Core.Path.{_≡_, refl, sym, ap, _∙_}
-use mathlib.Core.Bool.{Bool, true, false, not, cond}
+use mathlib.Core.Bool.{Bool, true, false}
 use mathlib.Core.List.{List, [], _++_, append-nil}
 use Prim.Native.Nat.{ℕ, _+_, _-_, _≤_, _<_}
 use native.Mathlib.Nat.{zero-add}
 use native.Mathlib.Omega.{arith}
-use borrow.Author.Tests.{leb-true, leb-false, eqb-true, eqb-false, eq-eqb, ne-eqb}
+use borrow.Author.Tests.{leb-true, leb-false, eq-eqb, ne-eqb}
 use lib.Dec.{leb, eqb}
 use lib.ListN.{length, take, drop, replicate, drop-of-length-le}
 use Rattle.format.specs.Read.{Reader, Answer, accepted, refused, at, operation, addressable}
 use Rattle.format.specs.Serialize.{Part, read}
-use Rattle.format.specs.Shared.{suite-version, known}
+use Rattle.format.specs.Shared.{suite-version}
 use Rattle.format.specs.Auth.{HeaderAuth, zeros, read-header-auth-tag-of, read-header-auth-tag, header-auth-of}
 use Rattle.format.specs.Lent.{bytes-at}
 use Rattle.steps.specs.Places.{part-of}
@@ -18,10 +18,11 @@ use Rattle.steps.proofs.Tidy.{read-tidy}
 use Rattle.steps.proofs.Steps.{refused-is-none, go, stop, pass, fail, gives}
 use Rattle.steps.proofs.Numbers.{length-part, read-got, read-lacks}
 use Rattle.steps.proofs.Operations.{operation-guarded, operation-reached}
-use Rattle.suites.specs.Table.{by-version, suite-of}
+use Rattle.suites.specs.Table.{suite-of}
 use Rattle.suites.specs.declared.Suite.{Suite}
 use Rattle.suites.specs.declared.SuiteAnswer.{SuiteAnswer}
 use Rattle.suites.specs.declared.SuiteAnswer.the-variants.{Known, Unknown}
+use Rattle.suites.proofs.Answers.{unknown, its-version, in-table}
 use Rattle.wire.specs.Codes.{because, span-of, why-span}
 use Rattle.wire.specs.Stored.{stored}
 use Rattle.wire.specs.declared.Refusal.{Refusal}
@@ -120,42 +121,22 @@ unfolding read-header-auth-tag-of read-tag
 v2-whole m s iv a r f = rw a at f
 
 -- the suite, as it was looked up
-record Version (n : ℕ) (k : Suite) : Type 0 where
-  is : k .version ≡ suite-version n
-  some : suite-version n ≡ 0 → ⊥
-
 module _ (n : ℕ) (x : SuiteAnswer) (xIs : x ≡ suite-of n) where
-  none : x ≡ Unknown → suite-version n ≡ 0
-  none e = by (eqb (suite-version n) 0) refl (sym e ∙ xIs)
-    where
-      by : (c : Bool) → eqb (suite-version n) 0 ≡ c → Unknown ≡ cond c Unknown (Known (record { number = n; version = suite-version n })) → suite-version n ≡ 0
-      by true q f = eqb-true _ _ q
-      by false q f = let z : _≡_ {A = ℕ} 0 1 = cc in absurd (omega arith)
-
-  version : (k : Suite) → x ≡ Known k → Version n k
-  version k e = by (eqb (suite-version n) 0) refl (sym e ∙ xIs)
-    where
-      by : (c : Bool) → eqb (suite-version n) 0 ≡ c → Known k ≡ cond c Unknown (Known (record { number = n; version = suite-version n })) → Version n k
-      by true q f = let z : _≡_ {A = ℕ} 0 1 = cc in absurd (omega arith)
-      by false q f =
-          let y : k ≡ record { number = n; version = suite-version n } = cc in
-          record { is = ap (λ (u : Suite). u .version) y; some = eqb-false _ _ q }
-
   module _ (m : List ℕ) (s : ℕ) (r : AuthRead) where
     pub suite-unknown : x ≡ Unknown → (a : Refusal) → a ≡ because 6 0 → r ≡ no-auth a → r ≡ auth-of (at (read-header-auth-tag n) m s)
     unfolding read-header-auth-tag
-    suite-unknown e a f g = g ∙ ap no-auth f ∙ no-record _ (because 6 0) (fail 6 _ _ m s (ap not (eq-eqb _ _ (none e))))
+    suite-unknown e a f g = g ∙ ap no-auth f ∙ no-record _ (because 6 0) (fail 6 _ _ m s (unknown n x xIs e))
 
     module _ (k : Suite) (e : x ≡ Known k) where
       reads : (v1 : Bool) → eqb (suite-version n) 1 ≡ v1 → at (read-header-auth-tag n) m s ≡ at (read-header-auth-tag-of v1) m s
       unfolding read-header-auth-tag
-      reads v1 q = pass 6 _ _ m s (ap not (ne-eqb _ _ (version k e .some))) ∙ ap (λ (b : Bool). at (read-header-auth-tag-of b) m s) q
+      reads v1 q = pass 6 _ _ m s (in-table n x xIs k e) ∙ ap (λ (b : Bool). at (read-header-auth-tag-of b) m s) q
 
       pub suite-v1 : k .version ≡ 1 → r ≡ auth-of (at (read-header-auth-tag-of true) m s) → r ≡ auth-of (at (read-header-auth-tag n) m s)
-      suite-v1 h f = f ∙ sym (ap auth-of (reads true (eq-eqb _ _ (sym (version k e .is) ∙ h))))
+      suite-v1 h f = f ∙ sym (ap auth-of (reads true (eq-eqb _ _ (sym (its-version n x xIs k e) ∙ h))))
 
       pub suite-v2 : (k .version ≡ 1 → ⊥) → r ≡ auth-of (at (read-header-auth-tag-of false) m s) → r ≡ auth-of (at (read-header-auth-tag n) m s)
-      suite-v2 h f = f ∙ sym (ap auth-of (reads false (ne-eqb _ _ (λ q. h (version k e .is ∙ q)))))
+      suite-v2 h f = f ∙ sym (ap auth-of (reads false (ne-eqb _ _ (λ q. h (its-version n x xIs k e ∙ q)))))
 
 -- as an operation of its own
 module _ (n : ℕ) (m : List ℕ) (s : ℕ) (b : Bool) (is : b ≡ addressable m s) (r : AuthRead) where

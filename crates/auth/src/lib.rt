@@ -1,5 +1,5 @@
 // The authentication record of a suite.
-pub mod reading;
+mod reading;
 
 use suites::Suite;
 use suites::SuiteAnswer;
@@ -23,7 +23,7 @@ pub struct AuthRead {
 }
 
 // A record at a place, without refusal 1.
-fn record_at(m: &[u8], start: u64, suite: u16) -> AuthRead
+fn record_at(m: &[u8], start: u64, suite: u32) -> AuthRead
     requires { ⌜ (start < 4294967296) × (length (now m) < 4294967296) ⌝ }
     ensures { λ r. ⌜ r ≡ auth-of (at (record-of suite) (now (m .entry)) start) ⌝ }
 {
@@ -38,7 +38,7 @@ fn record_at(m: &[u8], start: u64, suite: u16) -> AuthRead
 }
 
 // ReadHeaderAuthTag.
-pub fn read_header_auth_tag(m: &[u8], start: u64, suite: u16) -> AuthRead
+pub fn read_header_auth_tag(m: &[u8], start: u64, suite: u32) -> AuthRead
     ensures { λ r. ⌜ r ≡ auth-of (operation (record-of suite) (now (m .entry)) start) ⌝ }
 {
     if wire::reading::is_addressable(m, start) {
