@@ -4,7 +4,7 @@ use checks::WriteAnswer;
 use checks::fails;
 use checks::refuses;
 use suites::Suite;
-use suites::suite_version;
+use suites::SuiteAnswer;
 use wire::refusals::IV_LENGTH;
 use wire::refusals::OUTPUT_TOO_SHORT;
 use wire::refusals::TAG_LENGTH;
@@ -12,21 +12,17 @@ use wire::refusals::UNKNOWN_SUITE;
 use wire::writing::put_bytes;
 ghost use mathlib.Core.Path.{_≡_};
 ghost use lib.ListN.{length};
-ghost use Rattle.format.specs.Shared.{by, suite-version};
-ghost use Rattle.format.specs.Checks.{first, auth-checks};
-ghost use Rattle.format.specs.Auth.{write-header-auth-tag};
+ghost use Rattle.format.specs.Shared.{by};
+ghost use Rattle.format.specs.Checks.{first};
 ghost use Rattle.format.specs.Lent.{writing-header-auth-tag};
 ghost use Rattle.wire.specs.Stored.{stored};
 ghost use Rattle.checks.specs.Answers.{checked, Writes};
-ghost use Rattle.auth_write.specs.Ready.{AuthReady};
+ghost use Rattle.auth_write.specs.Ready.{length-checks, auth-image, AuthReady};
 
-// 6; 19; 30.
-fn check_auth(suite: u16, iv: usize, tag: usize) -> Checked
-    ensures { λ r. ⌜ r ≡ checked (first (auth-checks suite iv tag)) ⌝ }
+// 19; 30.
+fn check_lengths(iv: usize, tag: usize) -> Checked
+    ensures { λ r. ⌜ r ≡ checked (first (length-checks iv tag)) ⌝ }
 {
-    if suite_version(suite) == 0 {
-        return fails(UNKNOWN_SUITE);
-    }
     if iv != Suite::IV_LEN {
         return fails(IV_LENGTH);
     }
@@ -36,21 +32,21 @@ fn check_auth(suite: u16, iv: usize, tag: usize) -> Checked
     Checked::Passes
 }
 
-// How many bytes the record of a suite takes: version 2 has no IV.
-fn auth_size(suite: u16) -> usize
-    ensures { λ r. ⌜ r ≡ by (suite-version suite) 28 16 ⌝ }
+// How many bytes the record takes: version 2 has no IV.
+fn auth_size(version: u8) -> usize
+    ensures { λ r. ⌜ r ≡ by version 28 16 ⌝ }
 {
-    if suite_version(suite) == 1 {
+    if version == 1 {
         return Suite::IV_LEN + Suite::TAG_LEN;
     }
     Suite::TAG_LEN
 }
 
-fn put_auth(suite: u16, iv: &[u8], tag: &[u8], out: &mut [u8])
-    requires { ⌜ AuthReady suite (now iv) (now tag) (length (now out)) ⌝ }
-    ensures { λ _. ⌜ now (out .exit) ≡ stored (now (out .entry)) 0 (write-header-auth-tag suite (now (iv .entry)) (now (tag .entry))) ⌝ }
+fn put_auth(version: u8, iv: &[u8], tag: &[u8], out: &mut [u8])
+    requires { ⌜ AuthReady version (now iv) (now tag) (length (now out)) ⌝ }
+    ensures { λ _. ⌜ now (out .exit) ≡ stored (now (out .entry)) 0 (auth-image version (now (iv .entry)) (now (tag .entry))) ⌝ }
 {
-    if suite_version(suite) == 1 {
+    if version == 1 {
         put_bytes(iv, 0, iv.len(), out, 0);
         put_bytes(tag, 0, tag.len(), out, Suite::IV_LEN);
         return;
@@ -59,17 +55,21 @@ fn put_auth(suite: u16, iv: &[u8], tag: &[u8], out: &mut [u8])
 }
 
 // Write an authentication record: 6; 19; 30; 28. In version 2 the contents of the IV are ignored.
-pub fn write_header_auth_tag(suite: u16, iv: &[u8], tag: &[u8], out: &mut [u8]) -> WriteAnswer
+pub fn write_header_auth_tag(suite: u32, iv: &[u8], tag: &[u8], out: &mut [u8]) -> WriteAnswer
     ensures { λ r. ⌜ Writes (writing-header-auth-tag suite (now (iv .entry)) (now (tag .entry))) (now (out .entry)) (now (out .exit)) r ⌝ }
 {
-    let c = check_auth(suite, iv.len(), tag.len());
+    let s = Suite::from_number(suite);
+    let SuiteAnswer::Known(known) = s else {
+        return refuses(UNKNOWN_SUITE);
+    };
+    let c = check_lengths(iv.len(), tag.len());
     if let Checked::Fails(r) = c {
         return WriteAnswer::Refused(r);
     }
-    let size = auth_size(suite);
+    let size = auth_size(known.version);
     if out.len() < size {
         return refuses(OUTPUT_TOO_SHORT);
     }
-    put_auth(suite, iv, tag, out);
+    put_auth(known.version, iv, tag, out);
     WriteAnswer::Written(size)
 }

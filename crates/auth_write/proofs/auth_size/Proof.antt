@@ -6,4 +6,4 @@ use Rattle.auth_write.proofs.auth_size.Tie as tie
 ruleset laws = (size-first, size-second, needs)
 
 pub auth-size-spec : {M : Type 1} → statement M
-auth-size-spec = tie.close (tie.spec (λ c κs. search laws) (λ c. search laws) (λ c. search laws) (λ c. search laws))
+auth-size-spec = tie.close (tie.spec (λ c. search laws) (λ c. search laws) (λ c. search laws))
