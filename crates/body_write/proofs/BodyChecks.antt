@@ -4,6 +4,7 @@ use native.Mathlib.Omega.{arith}
 use mathlib.Core.Path.{_≡_, refl, sym, _∙_}
 use mathlib.Core.Option.{none}
 use mathlib.Core.List.{List, _++_}
+use lib.Dec.{eqb}
 use lib.ListN.{length}
 use borrow.Author.Tests.{eqb-true}
 use Rattle.format.specs.Shared.{by}
@@ -17,11 +18,13 @@ use Rattle.checks.specs.declared.Checked.{Checked}
 use Rattle.checks.specs.declared.Checked.the-variants.{Passes, Fails}
 use Rattle.checks.proofs.Stages.{stage-passes, stage-fails, front, back}
 use Rattle.checks.proofs.SectionChecks.{pairs-passed, pairs-few, keys-passed}
+use Rattle.suites.proofs.Find.{fits}
 use Rattle.body_write.specs.Lent.{body-to-write}
 use Rattle.body_write.specs.Ready.{Small}
-use Rattle.body_write.specs.declared.Numbers.{Numbers}
+use Rattle.fields.specs.declared.BodyNumbers.{BodyNumbers}
+use Rattle.body_write.proofs.VersionLaws.{one-or-two-small, by-small}
 
-module _ (n : Numbers) (messageId suiteData text pairs keys : List ℕ) where
+module _ (n : BodyNumbers) (messageId suiteData text pairs keys : List ℕ) where
   abbrev opens : List Check
   opens = opening-checks (n .version) (n .messageType) (n .suite) (length messageId)
 
@@ -73,11 +76,30 @@ module _ (n : Numbers) (messageId suiteData text pairs keys : List ℕ) where
     pub body-keys-passed : Passed 6 text keys
     body-keys-passed = keys-passed text keys (front of-keys _ (back of-pairs _ behind))
 
+    closed : first closes ≡ none
+    closed = back of-keys _ (back of-pairs _ behind)
+
+    -- each number fits where it is stored
+    pub version-small : n .version < 256
+    version-small = one-or-two-small _ (holds opens opened .0)
+
+    pub type-small : n .messageType < 256
+    type-small = by-small (eqb (n .version) 1) 128 0 _ (eqb-true _ _ (holds opens opened .1 .0)) (omega arith) (omega arith)
+
+    pub suite-small : n .suite < 65536
+    suite-small = fits (n .suite) (holds opens opened .1 .1 .0)
+
+    pub content-small : n .contentType < 256
+    content-small = one-or-two-small _ (holds closes closed .0)
+
+    pub iv-small : n .headerIvLength < 256
+    iv-small = by-small (eqb (n .version) 1) 12 0 _ (eqb-true _ _ (holds closes closed .1 .0)) (omega arith) (omega arith)
+
     pub id-long : length messageId ≡ by (n .version) 16 32
     id-long = eqb-true _ _ (holds opens opened .1 .1 .1 .1 .0)
 
     pub data-long : length suiteData ≡ by (n .version) 0 32
-    data-long = eqb-true _ _ (holds closes (back of-keys _ (back of-pairs _ behind)) .1 .1 .0)
+    data-long = eqb-true _ _ (holds closes closed .1 .1 .0)
 
     pub tables-small : Small pairs keys
     tables-small =

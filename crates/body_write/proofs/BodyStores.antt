@@ -21,11 +21,11 @@ use Rattle.section_write.specs.Sizes.{aad-section-size, keys-section-size}
 use Rattle.section_write.proofs.Images.{aad-long, keys-long}
 use Rattle.body_write.specs.Lent.{body-to-write, write-opening, write-closing}
 use Rattle.body_write.specs.Ready.{body-size, Small, BodyReady}
-use Rattle.body_write.specs.declared.Numbers.{Numbers}
+use Rattle.fields.specs.declared.BodyNumbers.{BodyNumbers}
 use Rattle.body_write.proofs.Ends.{opening-long, closing-long, ends-fit}
-use Rattle.body_write.proofs.BodyChecks.{body-pairs-passed, body-pairs-few, body-keys-passed, id-long, data-long, tables-small}
+use Rattle.body_write.proofs.BodyChecks.{version-small, type-small, suite-small, content-small, iv-small, body-pairs-passed, body-pairs-few, body-keys-passed, id-long, data-long, tables-small}
 
-module _ (n : Numbers) (messageId suiteData text pairs keys : List ℕ) where
+module _ (n : BodyNumbers) (messageId suiteData text pairs keys : List ℕ) where
   abbrev opening : List ℕ
   opening = write-opening (eqb (n .version) 1) (n .version) (n .messageType) (n .suite) messageId
 
@@ -82,6 +82,11 @@ module _ (n : Numbers) (messageId suiteData text pairs keys : List ℕ) where
         let d = data-long n messageId suiteData text pairs keys p in
         let f = ends-fit (eqb (n .version) 1) (length messageId) (length suiteData) i d in
         record {
+          version = version-small n messageId suiteData text pairs keys p;
+          messageType = type-small n messageId suiteData text pairs keys p;
+          suite = suite-small n messageId suiteData text pairs keys p;
+          contentType = content-small n messageId suiteData text pairs keys p;
+          headerIvLength = iv-small n messageId suiteData text pairs keys p;
           pairs = body-pairs-passed n messageId suiteData text pairs keys p;
           few = body-pairs-few n messageId suiteData text pairs keys p;
           keys = body-keys-passed n messageId suiteData text pairs keys p;

@@ -1,4 +1,5 @@
 pub mod VersionLaws
+pub mod SuiteLaws
 pub mod Ends
 pub mod BodyChecks
 pub mod SectionStores

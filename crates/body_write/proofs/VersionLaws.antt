@@ -1,17 +1,11 @@
--- Laws of the tests that look at the version or the content type. Assumes nothing.
-use Prim.Native.Nat.{ℕ}
+-- Laws of the tests that look at the version, and of what passed a test. Assumes nothing.
+use Prim.Native.Nat.{ℕ, _<_}
+use native.Mathlib.Omega.{arith}
 use mathlib.Core.Path.{_≡_, refl, ap}
-use mathlib.Core.Bool.{Bool, true, false, _||_, not}
+use mathlib.Core.Bool.{Bool, true, false, cond, _||_}
 use lib.Dec.{eqb}
-use borrow.Author.Tests.{eq-eqb, ne-eqb}
-use Rattle.format.specs.Shared.{by, one-or-two, frame-fits}
-
-module _ (x : ℕ) where
-  pub one-is : x ≡ 1 → true ≡ one-or-two x
-  one-is e = rw e
-
-  pub two-else : (x ≡ 1 → ⊥) → eqb x 2 ≡ one-or-two x
-  two-else h = rw (ne-eqb _ _ h)
+use borrow.Author.Tests.{eqb-true, eq-eqb, ne-eqb}
+use Rattle.format.specs.Shared.{by, one-or-two}
 
 module _ (version a b : ℕ) where
   pub by-first : version ≡ 1 → a ≡ by version a b
@@ -26,19 +20,14 @@ module _ (version a b : ℕ) where
   pub is-by-second : (version ≡ 1 → ⊥) → (n : ℕ) → eqb n b ≡ eqb n (by version a b)
   is-by-second h n = ap (eqb n) (by-second h)
 
-module _ (content frame : ℕ) where
-  pub frame-none : content ≡ 1 → eqb frame 0 ≡ frame-fits content frame
-  unfolding frame-fits
-  frame-none e = rw e (or-false (eqb frame 0))
-    where
-      or-false : (t : Bool) → t ≡ t || false
-      or-false true = refl
-      or-false false = refl
+-- numbers that passed their test are small
+pub one-or-two-small : (x : ℕ) → one-or-two x ≡ true → x < 256
+one-or-two-small x e = go (eqb x 1) refl e
+  where
+    go : (t : Bool) → eqb x 1 ≡ t → t || eqb x 2 ≡ true → x < 256
+    go true q f = let z = eqb-true x 1 q in omega arith
+    go false q f = let z = eqb-true x 2 f in omega arith
 
-  pub frame-some : content ≡ 2 → not (eqb frame 0) ≡ frame-fits content frame
-  unfolding frame-fits
-  frame-some e = rw e
-
-  pub frame-other : (content ≡ 1 → ⊥) → (content ≡ 2 → ⊥) → false ≡ frame-fits content frame
-  unfolding frame-fits
-  frame-other h k = rw (ne-eqb _ _ h, ne-eqb _ _ k)
+pub by-small : (t : Bool) (a b n : ℕ) → n ≡ cond t a b → a < 256 → b < 256 → n < 256
+by-small true a b n e h k = omega arith
+by-small false a b n e h k = omega arith

@@ -4,9 +4,9 @@ use mathlib.Core.List.{List, [], _∷_, _++_}
 use Prim.Native.Nat.{ℕ}
 use Rattle.format.specs.Body.{write-opening-of, write-closing-of}
 use Rattle.format.specs.Lent.{BodyToWrite}
-use Rattle.body_write.specs.declared.Numbers.{Numbers}
+use Rattle.fields.specs.declared.BodyNumbers.{BodyNumbers}
 
-unfoldable pub body-to-write : Numbers → List ℕ → List ℕ → List ℕ → List ℕ → List ℕ → BodyToWrite
+unfoldable pub body-to-write : BodyNumbers → List ℕ → List ℕ → List ℕ → List ℕ → List ℕ → BodyToWrite
 body-to-write n messageId suiteData text pairs keys =
     record {
       version = n .version;

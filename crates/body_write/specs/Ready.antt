@@ -6,7 +6,7 @@ use lib.ListN.{length}
 use Rattle.format.specs.Shared.{by}
 use Rattle.checks.specs.Table.{Passed, entries-size}
 use Rattle.section_write.specs.Sizes.{aad-section-size, keys-section-size}
-use Rattle.body_write.specs.declared.Numbers.{Numbers}
+use Rattle.fields.specs.declared.BodyNumbers.{BodyNumbers}
 
 abbrev pub body-size : ℕ → List ℕ → List ℕ → ℕ
 body-size version pairs keys = by version 20 35 + (aad-section-size pairs + (keys-section-size keys + by version 10 37))
@@ -23,8 +23,13 @@ pub record SectionsReady (text pairTable keyTable : List ℕ) (at room : ℕ) : 
   pub keys : Passed 6 text keyTable
   pub fits : at + (aad-section-size pairTable + keys-section-size keyTable) ≤ room
 
--- what the stores of a body ask: all that was tested of lengths and places, and room
-pub record BodyReady (n : Numbers) (messageId suiteData text pairTable keyTable : List ℕ) (room : ℕ) : Type 0 where
+-- what the stores of a body ask: all that was tested of numbers, lengths and places, and room
+pub record BodyReady (n : BodyNumbers) (messageId suiteData text pairTable keyTable : List ℕ) (room : ℕ) : Type 0 where
+  pub version : n .version < 256
+  pub messageType : n .messageType < 256
+  pub suite : n .suite < 65536
+  pub contentType : n .contentType < 256
+  pub headerIvLength : n .headerIvLength < 256
   pub pairs : Passed 4 text pairTable
   pub few : entries-size pairTable < 65534
   pub keys : Passed 6 text keyTable

@@ -1,8 +1,9 @@
 // What stands behind the key section.
 use super::versions::is_by;
-use super::versions::is_one_or_two;
 use checks::Checked;
 use checks::fails;
+use fields::frame_fits;
+use fields::is_one_or_two;
 use suites::Suite;
 use wire::refusals::CONTENT_TYPE;
 use wire::refusals::FRAME_LENGTH;
@@ -17,27 +18,14 @@ ghost use mathlib.Core.List.{[]};
 ghost use Prim.Native.Nat.{_+_, _≤_, _<_};
 ghost use lib.Dec.{eqb};
 ghost use lib.ListN.{length};
-ghost use Rattle.format.specs.Shared.{by, frame-fits};
+ghost use Rattle.format.specs.Shared.{by};
 ghost use Rattle.format.specs.Checks.{first, closing-checks};
 ghost use Rattle.wire.specs.Stored.{stored};
 ghost use Rattle.checks.specs.Answers.{checked};
 ghost use Rattle.body_write.specs.Lent.{write-closing};
 
-// Framed content needs a frame length above 0, non-framed content needs 0.
-fn is_frame_fit(content: u8, frame: u32) -> bool
-    ensures { λ r. ⌜ r ≡ frame-fits content frame ⌝ }
-{
-    if content == 1 {
-        return frame == 0;
-    }
-    if content == 2 {
-        return frame != 0;
-    }
-    false
-}
-
 // 17; 19; 25, by the suite data's length; 20.
-pub fn check_closing(version: u8, content: u8, iv: u8, suiteData: usize, frame: u32) -> Checked
+pub fn check_closing(version: u32, content: u32, iv: u32, suiteData: usize, frame: u32) -> Checked
     ensures { λ r. ⌜ r ≡ checked (first (closing-checks version content iv suiteData frame)) ⌝ }
 {
     if !is_one_or_two(content) {
@@ -49,14 +37,14 @@ pub fn check_closing(version: u8, content: u8, iv: u8, suiteData: usize, frame: 
     if !is_by(version, suiteData, 0, Suite::COMMIT_LEN) {
         return fails(SUITE_DATA_LENGTH);
     }
-    if !is_frame_fit(content, frame) {
+    if !frame_fits(content, frame) {
         return fails(FRAME_LENGTH);
     }
     Checked::Passes
 }
 
 // How many bytes it takes.
-pub fn closing_size(version: u8) -> usize
+pub fn closing_size(version: u32) -> usize
     ensures { λ r. ⌜ (r ≡ by version 10 37) × (r < 64) ⌝ }
 {
     if version == 1 {
@@ -84,13 +72,20 @@ fn put_closing_v2(content: u8, frame: u32, suiteData: &[u8], out: &mut [u8])
     put_bytes(suiteData, 0, suiteData.len(), out, 5);
 }
 
-pub fn put_closing(version: u8, content: u8, iv: u8, frame: u32, suiteData: &[u8], out: &mut [u8])
-    requires { ⌜ (10 ≤ length (now out)) × (5 + length (now suiteData) ≤ length (now out)) ⌝ }
+pub fn put_closing(
+    version: u32,
+    content: u32,
+    iv: u32,
+    frame: u32,
+    suiteData: &[u8],
+    out: &mut [u8],
+)
+    requires { ⌜ (content < 256) × (iv < 256) × (10 ≤ length (now out)) × (5 + length (now suiteData) ≤ length (now out)) ⌝ }
     ensures { λ _. ⌜ now (out .exit) ≡ stored (now (out .entry)) 0 (write-closing (eqb version 1) content iv frame (now (suiteData .entry))) ⌝ }
 {
     if version == 1 {
-        put_closing_v1(content, iv, frame, out);
+        put_closing_v1(content as u8, iv as u8, frame, out);
         return;
     }
-    put_closing_v2(content, frame, suiteData, out);
+    put_closing_v2(content as u8, frame, suiteData, out);
 }

@@ -1,7 +1,7 @@
 // Writes a header body. Everything is tested before anything is stored, so that a refusal leaves the output as it was.
-pub mod closing;
-pub mod opening;
-pub mod versions;
+mod closing;
+mod opening;
+mod versions;
 
 use checks::Checked;
 use checks::WriteAnswer;
@@ -9,6 +9,7 @@ use checks::keys::check_keys;
 use checks::pairs::check_few_pairs;
 use checks::pairs::check_pairs;
 use checks::refuses;
+use fields::BodyNumbers;
 use section_write::aad_section_size;
 use section_write::keys_section_size;
 use section_write::put_aad_section;
@@ -25,17 +26,6 @@ ghost use Rattle.checks.specs.Answers.{checked, Writes};
 ghost use Rattle.body_write.specs.Lent.{body-to-write};
 ghost use Rattle.body_write.specs.Ready.{body-size, Small, SectionsReady, BodyReady};
 
-// The numbers among a body's fields, each as wide as it is stored: so no frame length is above 32 bits, and no refusal has to
-// speak of one.
-pub struct Numbers {
-    pub version: u8,
-    pub messageType: u8,
-    pub suite: u16,
-    pub contentType: u8,
-    pub headerIvLength: u8,
-    pub frameLength: u32,
-}
-
 // Few pairs are checked apart, as in `section_write`, and for the same reason here too.
 fn check_body_pairs(text: &[u8], pairs: &[u32]) -> Checked
     ensures { λ r. ⌜ r ≡ checked (first (writing-aad-section (now (text .entry)) (now (pairs .entry)) .checks)) ⌝ }
@@ -48,7 +38,7 @@ fn check_body_pairs(text: &[u8], pairs: &[u32]) -> Checked
 
 // All but 28, in document 01's order.
 fn check_body(
-    n: Numbers,
+    n: BodyNumbers,
     messageId: &[u8],
     suiteData: &[u8],
     text: &[u8],
@@ -78,7 +68,7 @@ fn check_body(
     )
 }
 
-fn body_size(version: u8, pairs: &[u32], keys: &[u32]) -> usize
+fn body_size(version: u32, pairs: &[u32], keys: &[u32]) -> usize
     requires { ⌜ Small (now pairs) (now keys) ⌝ }
     ensures { λ r. ⌜ r ≡ body-size version (now (pairs .entry)) (now (keys .entry)) ⌝ }
 {
@@ -98,7 +88,7 @@ fn put_sections(text: &[u8], pairs: &[u32], keys: &[u32], out: &mut [u8], at: us
 }
 
 fn put_body(
-    n: Numbers,
+    n: BodyNumbers,
     messageId: &[u8],
     suiteData: &[u8],
     text: &[u8],
@@ -125,7 +115,7 @@ fn put_body(
 
 // Write a body: 3; 5; 6; 7; 24; the pairs' and the keys'; 17; 19; 25; 20; 28.
 pub fn write_header_body(
-    numbers: Numbers,
+    numbers: BodyNumbers,
     messageId: &[u8],
     suiteData: &[u8],
     text: &[u8],

@@ -1,9 +1,10 @@
 // What stands before the context section.
 use super::versions::is_by;
-use super::versions::is_one_or_two;
 use checks::Checked;
 use checks::fails;
-use suites::suite_version;
+use fields::is_one_or_two;
+use suites::Suite;
+use suites::SuiteAnswer;
 use wire::refusals::ID_LENGTH;
 use wire::refusals::MESSAGE_TYPE;
 use wire::refusals::SUITE_OF_OTHER_VERSION;
@@ -24,7 +25,7 @@ ghost use Rattle.checks.specs.Answers.{checked};
 ghost use Rattle.body_write.specs.Lent.{write-opening};
 
 // 3; 5; 6; 7; 24, by the ID's length.
-pub fn check_opening(version: u8, kind: u8, suite: u16, id: usize) -> Checked
+pub fn check_opening(version: u32, kind: u32, suite: u32, id: usize) -> Checked
     ensures { λ r. ⌜ r ≡ checked (first (opening-checks version kind suite id)) ⌝ }
 {
     if !is_one_or_two(version) {
@@ -33,11 +34,11 @@ pub fn check_opening(version: u8, kind: u8, suite: u16, id: usize) -> Checked
     if !is_by(version, kind as usize, 0x80, 0) {
         return fails(MESSAGE_TYPE);
     }
-    let s = suite_version(suite);
-    if s == 0 {
+    let s = Suite::from_number(suite);
+    let SuiteAnswer::Known(known) = s else {
         return fails(UNKNOWN_SUITE);
-    }
-    if s != version {
+    };
+    if known.version as u32 != version {
         return fails(SUITE_OF_OTHER_VERSION);
     }
     if !is_by(version, id, 16, 32) {
@@ -47,7 +48,7 @@ pub fn check_opening(version: u8, kind: u8, suite: u16, id: usize) -> Checked
 }
 
 // How many bytes it takes: the place of the context section.
-pub fn opening_size(version: u8) -> usize
+pub fn opening_size(version: u32) -> usize
     ensures { λ r. ⌜ (r ≡ by version 20 35) × (r < 64) ⌝ }
 {
     if version == 1 {
@@ -75,13 +76,13 @@ fn put_opening_v2(version: u8, suite: u16, id: &[u8], out: &mut [u8])
     put_bytes(id, 0, id.len(), out, 3);
 }
 
-pub fn put_opening(version: u8, kind: u8, suite: u16, id: &[u8], out: &mut [u8])
-    requires { ⌜ 4 + length (now id) ≤ length (now out) ⌝ }
+pub fn put_opening(version: u32, kind: u32, suite: u32, id: &[u8], out: &mut [u8])
+    requires { ⌜ (version < 256) × (kind < 256) × (suite < 65536) × (4 + length (now id) ≤ length (now out)) ⌝ }
     ensures { λ _. ⌜ now (out .exit) ≡ stored (now (out .entry)) 0 (write-opening (eqb version 1) version kind suite (now (id .entry))) ⌝ }
 {
     if version == 1 {
-        put_opening_v1(version, kind, suite, id, out);
+        put_opening_v1(version as u8, kind as u8, suite as u16, id, out);
         return;
     }
-    put_opening_v2(version, suite, id, out);
+    put_opening_v2(version as u8, suite as u16, id, out);
 }

@@ -1,20 +1,10 @@
 // What the version decides.
 ghost use mathlib.Core.Path.{_≡_};
 ghost use lib.Dec.{eqb};
-ghost use Rattle.format.specs.Shared.{by, one-or-two};
-
-// The versions, and the content types.
-pub fn is_one_or_two(x: u8) -> bool
-    ensures { λ r. ⌜ r ≡ one-or-two x ⌝ }
-{
-    if x == 1 {
-        return true;
-    }
-    x == 2
-}
+ghost use Rattle.format.specs.Shared.{by};
 
 // Whether n is a in version 1, b in version 2.
-pub fn is_by(version: u8, n: usize, a: usize, b: usize) -> bool
+pub fn is_by(version: u32, n: usize, a: usize, b: usize) -> bool
     ensures { λ r. ⌜ r ≡ eqb n (by version a b) ⌝ }
 {
     if version == 1 {

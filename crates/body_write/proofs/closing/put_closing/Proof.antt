@@ -6,4 +6,4 @@ use Rattle.body_write.proofs.closing.put_closing.Tie as tie
 ruleset laws = (closing-first, closing-second, needs)
 
 pub put-closing-spec : {M : Type 1} → statement M
-put-closing-spec = tie.close (tie.spec (λ c κs. search laws) (λ c. search laws) (λ c. search laws) (λ c κs. search laws) (λ c. search laws) (λ c. search laws))
+put-closing-spec = tie.close (tie.spec (λ c. search laws) (λ c. search laws) (λ c κs. search laws) (λ c. search laws) (λ c. search laws) (λ c. search laws) (λ c κs. search laws) (λ c. search laws) (λ c. search laws))

@@ -6,4 +6,4 @@ use Rattle.body_write.proofs.opening.put_opening.Tie as tie
 ruleset laws = (opening-first, opening-second, needs)
 
 pub put-opening-spec : {M : Type 1} → statement M
-put-opening-spec = tie.close (tie.spec (λ c κs. search laws) (λ c. search laws) (λ c. search laws) (λ c κs. search laws) (λ c. search laws) (λ c. search laws))
+put-opening-spec = tie.close (tie.spec (λ c. search laws) (λ c. search laws) (λ c. search laws) (λ c κs. search laws) (λ c. search laws) (λ c. search laws) (λ c. search laws) (λ c. search laws) (λ c κs. search laws) (λ c. search laws) (λ c. search laws))
