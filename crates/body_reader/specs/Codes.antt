@@ -18,6 +18,7 @@ use Rattle.request.specs.Codes.{which-of, mode-of, max-of}
 use Rattle.request.specs.declared.Which.{Which}
 use Rattle.request.specs.declared.Mode.{Mode}
 use Rattle.request.specs.declared.Max.{Max}
+use Rattle.fields.specs.declared.BodyNumbers.{BodyNumbers}
 use Rattle.context.specs.Codes.{context-of}
 use Rattle.context.specs.declared.ContextAnswer.the-variants as context
 use Rattle.keys.specs.Codes.{keys-of}
@@ -34,20 +35,26 @@ use Rattle.body_reader.specs.declared.MeasureAnswer.{MeasureAnswer}
 use Rattle.body_reader.specs.declared.MeasureAnswer.the-variants as measure
 
 -- a body's numbers, the places of its ID and suite data, and how many pairs and keys it has
-abbrev pub body-code : BodyRead → HeaderBody
-body-code b =
+abbrev pub numbers-code : BodyRead → BodyNumbers
+numbers-code b =
     record {
       version = b .version;
       messageType = b .messageType;
       suite = b .suite;
-      messageId = b .messageId .start;
-      messageIdLen = length (b .messageId .bytes);
-      pairs = length (b .pairs);
-      keys = length (b .keys);
       contentType = b .contentType;
       headerIvLength = b .headerIvLength;
       frameLength = b .frameLength;
-      suiteData = b .suiteData .start;
+    }
+
+abbrev pub body-code : BodyRead → HeaderBody
+body-code b =
+    record {
+      numbers = numbers-code b;
+      messageIdStart = b .messageId .start;
+      messageIdLen = length (b .messageId .bytes);
+      pairCount = length (b .pairs);
+      keyCount = length (b .keys);
+      suiteDataStart = b .suiteData .start;
       suiteDataLen = length (b .suiteData .bytes);
     }
 
@@ -62,20 +69,26 @@ pub record ReadsBody (o : Answer BodyRead) (pairs pairs′ keys keys′ : List �
   pub keyTable : keys′ ≡ key-table-after o keys
 
 -- a body's ends and counts, put together
-abbrev pub body-with : Opening → ℕ → ℕ → Closing → HeaderBody
-body-with o pairs keys c =
+abbrev pub numbers-with : Opening → Closing → BodyNumbers
+numbers-with o c =
     record {
       version = o .version;
       messageType = o .messageType;
       suite = o .suite;
-      messageId = o .messageId;
-      messageIdLen = o .messageIdLen;
-      pairs = pairs;
-      keys = keys;
       contentType = c .contentType;
       headerIvLength = c .headerIvLength;
       frameLength = c .frameLength;
-      suiteData = c .suiteData;
+    }
+
+abbrev pub body-with : Opening → ℕ → ℕ → Closing → HeaderBody
+body-with o pairCount keyCount c =
+    record {
+      numbers = numbers-with o c;
+      messageIdStart = o .messageIdStart;
+      messageIdLen = o .messageIdLen;
+      pairCount = pairCount;
+      keyCount = keyCount;
+      suiteDataStart = c .suiteDataStart;
       suiteDataLen = c .suiteDataLen;
     }
 

@@ -4,6 +4,8 @@ use ends::Closing;
 use ends::ClosingAnswer;
 use ends::Opening;
 use ends::OpeningAnswer;
+use fields::BodyNumbers;
+use fields::frame_fits;
 use keys::KeysAnswer;
 use request::Request;
 use request::Which;
@@ -15,7 +17,6 @@ ghost use mathlib.Core.Path.{_≡_};
 ghost use Prim.Native.Nat.{_<_};
 ghost use lib.ListN.{length};
 ghost use Rattle.format.specs.Read.{at, operation};
-ghost use Rattle.format.specs.Shared.{frame-fits};
 ghost use Rattle.format.specs.Body.{read-header-body};
 ghost use Rattle.wire.specs.Codes.{because};
 ghost use Rattle.request.specs.Codes.{which-of, mode-of, max-of};
@@ -24,17 +25,12 @@ ghost use Rattle.body_reader.specs.Codes.{ReadsBody, Measured, body-with
 // The ID and the suite data by their places in the message, and how many pairs and keys stand in the tables. Type, IV length
 // and suite data are 0 where the version lacks them.
 pub struct HeaderBody {
-    pub version: u64,
-    pub messageType: u64,
-    pub suite: u64,
-    pub messageId: u64,
+    pub numbers: BodyNumbers,
+    pub messageIdStart: u64,
     pub messageIdLen: u64,
-    pub pairs: u64,
-    pub keys: u64,
-    pub contentType: u64,
-    pub headerIvLength: u64,
-    pub frameLength: u64,
-    pub suiteData: u64,
+    pub pairCount: u64,
+    pub keyCount: u64,
+    pub suiteDataStart: u64,
     pub suiteDataLen: u64,
 }
 
@@ -45,13 +41,13 @@ pub enum HeaderBodyAnswer {
 
 // A body before its tables are filled: its ends, the starts of its context section and its key section, and how many pairs and
 // keys they have.
-pub enum MeasureAnswer {
+enum MeasureAnswer {
     Is {
         opening: Opening,
-        aad: u64,
-        pairs: u64,
-        edks: u64,
-        keys: u64,
+        contextStart: u64,
+        pairCount: u64,
+        keysStart: u64,
+        keyCount: u64,
         closing: Closing,
         tail: u64,
     },
@@ -60,16 +56,16 @@ pub enum MeasureAnswer {
 
 impl MeasureAnswer {
     // The refusal, where there is one.
-    pub fn refusal(self) -> Refusal
+    fn refusal(self) -> Refusal
         ensures { λ r. ⌜ r ≡ why-measure self ⌝ }
     {
         match self {
             MeasureAnswer::Is {
                 opening: _,
-                aad: _,
-                pairs: _,
-                edks: _,
-                keys: _,
+                contextStart: _,
+                pairCount: _,
+                keysStart: _,
+                keyCount: _,
                 closing: _,
                 tail: _,
             } => refuse(refusals::NONE),
@@ -80,25 +76,28 @@ impl MeasureAnswer {
 
 fn accepted(
     opening: Opening,
-    pairs: u64,
-    keys: u64,
+    pairCount: u64,
+    keyCount: u64,
     closing: Closing,
     tail: u64,
 ) -> HeaderBodyAnswer
-    ensures { λ r. ⌜ r ≡ HeaderBodyAnswer.Accepted (body-with opening pairs keys closing) tail ⌝ }
+    ensures { λ r. ⌜ r ≡ HeaderBodyAnswer.Accepted (body-with opening pairCount keyCount closing) tail ⌝ }
 {
-    let body = HeaderBody {
+    let numbers = BodyNumbers {
         version: opening.version,
         messageType: opening.messageType,
         suite: opening.suite,
-        messageId: opening.messageId,
-        messageIdLen: opening.messageIdLen,
-        pairs,
-        keys,
         contentType: closing.contentType,
         headerIvLength: closing.headerIvLength,
         frameLength: closing.frameLength,
-        suiteData: closing.suiteData,
+    };
+    let body = HeaderBody {
+        numbers,
+        messageIdStart: opening.messageIdStart,
+        messageIdLen: opening.messageIdLen,
+        pairCount,
+        keyCount,
+        suiteDataStart: closing.suiteDataStart,
         suiteDataLen: closing.suiteDataLen,
     };
     HeaderBodyAnswer::Accepted { body, tail }
@@ -110,21 +109,8 @@ fn refused(number: u8) -> HeaderBodyAnswer
     HeaderBodyAnswer::Refused(refuse(number))
 }
 
-// Framed content needs a frame length above 0, non-framed content needs 0.
-fn frame_fits(contentType: u64, frameLength: u64) -> bool
-    ensures { λ r. ⌜ r ≡ frame-fits contentType frameLength ⌝ }
-{
-    if contentType == 1 {
-        return frameLength == 0;
-    }
-    if contentType == 2 {
-        return frameLength != 0;
-    }
-    false
-}
-
-// The readers of one version don't test it.
-fn frame_passes(which: Which, contentType: u64, frameLength: u64) -> bool
+// The readers of one version don't test 20.
+fn frame_passes(which: Which, contentType: u32, frameLength: u32) -> bool
     ensures { λ r. ⌜ r ≡ frame-test which contentType frameLength ⌝ }
 {
     let fits = frame_fits(contentType, frameLength);
@@ -162,10 +148,10 @@ fn measure(m: &[u8], start: u64, request: Request) -> MeasureAnswer
     if frame_passes(which, closing.contentType, closing.frameLength) {
         return MeasureAnswer::Is {
             opening,
-            aad,
-            pairs,
-            edks,
-            keys,
+            contextStart: aad,
+            pairCount: pairs,
+            keysStart: edks,
+            keyCount: keys,
             closing,
             tail,
         };
@@ -187,29 +173,29 @@ fn body_at(
     let a = measure(m, start, request);
     let MeasureAnswer::Is {
         opening,
-        aad,
-        pairs,
-        edks,
-        keys,
+        contextStart,
+        pairCount,
+        keysStart,
+        keyCount,
         closing,
         tail,
     } = a
     else {
         return HeaderBodyAnswer::Refused(a.refusal());
     };
-    if ((pairTable.len() / 4) as u64) < pairs {
+    if ((pairTable.len() / 4) as u64) < pairCount {
         return refused(refusals::PAIR_TABLE_TOO_SHORT);
     }
-    if ((keyTable.len() / 6) as u64) < keys {
+    if ((keyTable.len() / 6) as u64) < keyCount {
         return refused(refusals::KEY_TABLE_TOO_SHORT);
     }
-    let firstPair = aad + 4;
-    let firstKey = edks + 2;
-    let pairEntries = 2 * pairs;
-    let keyEntries = 3 * keys;
+    let firstPair = contextStart + 4;
+    let firstKey = keysStart + 2;
+    let pairEntries = 2 * pairCount;
+    let keyEntries = 3 * keyCount;
     entries::fill_places(m, firstPair, pairEntries, pairTable);
     entries::fill_places(m, firstKey, keyEntries, keyTable);
-    accepted(opening, pairs, keys, closing, tail)
+    accepted(opening, pairCount, keyCount, closing, tail)
 }
 
 // Reads the body at `start`. The places of its pairs and keys go into the tables, four numbers a pair and six a key.
