@@ -80,8 +80,8 @@ pub data-none : (version len : ℕ) → (version ≡ 2 → ⊥) → 0 ≡ data-s
 data-none version len e = rw (ne-eqb version 2 e)
 
 pub body-long : (b : HeaderBody) (tail : ℕ) (pairs keys : List ℕ) (h t d : ℕ)
-    → h ≡ length (line word-header (header-fields (b .version) (b .messageType) (b .suite) (b .contentType) (b .frameLength) tail))
-    → t ≡ tables-size pairs (b .pairs) keys (b .keys) → d ≡ data-size (b .version) (b .suiteDataLen)
+    → h ≡ length (line word-header (header-fields (b .numbers .version) (b .numbers .messageType) (b .numbers .suite) (b .numbers .contentType) (b .numbers .frameLength) tail))
+    → t ≡ tables-size pairs (b .pairCount) keys (b .keyCount) → d ≡ data-size (b .numbers .version) (b .suiteDataLen)
     → h + (4 + 2 * b .messageIdLen) + (t + d) ≡ body-size b tail pairs keys
 unfolding body-size
 body-long b tail pairs keys h t d x y z = rw (x, y, z)

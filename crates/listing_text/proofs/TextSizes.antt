@@ -81,7 +81,7 @@ tables-long m pairs np keys nk p k =
 pub text-long : (m : List ℕ) (b : HeaderBody) (tail : ℕ) (pairs keys : List ℕ) → BodyThere m b pairs keys → (size : ℕ) → size ≡ body-size b tail pairs keys → size ≡ length (body-text m b tail pairs keys)
 unfolding body-size body-text front-text
 text-long m b tail pairs keys w size e =
-    let i = part-long m (0x69 ∷ 0x64 ∷ []) (b .messageId) (b .messageIdLen) (w .messageId) in
-    let t = tables-long m pairs (b .pairs) keys (b .keys) (w .pairs-there) (w .keys-there) in
-    let d = data-long m (b .version) (b .suiteData) (b .suiteDataLen) (w .suiteData) in
+    let i = part-long m (0x69 ∷ 0x64 ∷ []) (b .messageIdStart) (b .messageIdLen) (w .messageId) in
+    let t = tables-long m pairs (b .pairCount) keys (b .keyCount) (w .pairs-there) (w .keys-there) in
+    let d = data-long m (b .numbers .version) (b .suiteDataStart) (b .suiteDataLen) (w .suiteData) in
     e ∙ sym (simp length-append (omega arith))

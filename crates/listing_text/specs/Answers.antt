@@ -34,7 +34,7 @@ items-text m table word n count = texts (item-line m table word n) (2 * n) count
 
 unfoldable pub front-text : List ℕ → HeaderBody → ℕ → List ℕ
 front-text m b tail =
-    line word-header (header-fields (b .version) (b .messageType) (b .suite) (b .contentType) (b .frameLength) tail) ++ part-text m word-id (b .messageId) (b .messageIdLen)
+    line word-header (header-fields (b .numbers .version) (b .numbers .messageType) (b .numbers .suite) (b .numbers .contentType) (b .numbers .frameLength) tail) ++ part-text m word-id (b .messageIdStart) (b .messageIdLen)
 
 unfoldable pub tables-text : List ℕ → List ℕ → ℕ → List ℕ → ℕ → List ℕ
 tables-text m pairs np keys nk = items-text m pairs word-pair 2 np ++ items-text m keys word-key 3 nk
@@ -44,7 +44,7 @@ data-text m version start len = cond (eqb version 2) (part-text m word-data star
 
 unfoldable pub body-text : List ℕ → HeaderBody → ℕ → List ℕ → List ℕ → List ℕ
 body-text m b tail pairs keys =
-    front-text m b tail ++ (tables-text m pairs (b .pairs) keys (b .keys) ++ data-text m (b .version) (b .suiteData) (b .suiteDataLen))
+    front-text m b tail ++ (tables-text m pairs (b .pairCount) keys (b .keyCount) ++ data-text m (b .numbers .version) (b .suiteDataStart) (b .suiteDataLen))
 
 -- the table has that many items of n parts, and they are few
 pub record Sized (table : List ℕ) (n count : ℕ) : Type 0 where
@@ -58,10 +58,10 @@ pub record TableThere (m table : List ℕ) (n count : ℕ) : Type 0 where
 
 pub record BodyThere (m : List ℕ) (b : HeaderBody) (pairs keys : List ℕ) : Type 0 where
   pub short : length m < 4294967296
-  pub messageId : There m (b .messageId) (b .messageIdLen)
-  pub suiteData : There m (b .suiteData) (b .suiteDataLen)
-  pub pairs-there : TableThere m pairs 2 (b .pairs)
-  pub keys-there : TableThere m keys 3 (b .keys)
+  pub messageId : There m (b .messageIdStart) (b .messageIdLen)
+  pub suiteData : There m (b .suiteDataStart) (b .suiteDataLen)
+  pub pairs-there : TableThere m pairs 2 (b .pairCount)
+  pub keys-there : TableThere m keys 3 (b .keyCount)
 
 -- how long the text is, by the numbers: a line's word, tab and end, and two digits a byte
 abbrev pub tables-size : List ℕ → ℕ → List ℕ → ℕ → ℕ
@@ -72,8 +72,8 @@ data-size version len = cond (eqb version 2) (6 + 2 * len) 0
 
 unfoldable pub body-size : HeaderBody → ℕ → List ℕ → List ℕ → ℕ
 body-size b tail pairs keys =
-    length (line word-header (header-fields (b .version) (b .messageType) (b .suite) (b .contentType) (b .frameLength) tail)) + (4 + 2 * b .messageIdLen)
-    + (tables-size pairs (b .pairs) keys (b .keys) + data-size (b .version) (b .suiteDataLen))
+    length (line word-header (header-fields (b .numbers .version) (b .numbers .messageType) (b .numbers .suite) (b .numbers .contentType) (b .numbers .frameLength) tail)) + (4 + 2 * b .messageIdLen)
+    + (tables-size pairs (b .pairCount) keys (b .keyCount) + data-size (b .numbers .version) (b .suiteDataLen))
 
 -- the answer and the tables are what reading the message gave
 pub record Reading (m : List ℕ) (a : HeaderBodyAnswer) (pairs keys : List ℕ) : Type 0 where

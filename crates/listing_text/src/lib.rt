@@ -1,6 +1,6 @@
 // The listing of a message as text: what document 01's listing program writes.
-pub mod lines;
-pub mod sizes;
+mod lines;
+mod sizes;
 
 use body_reader::HeaderBody;
 use body_reader::HeaderBodyAnswer;
@@ -41,15 +41,15 @@ fn write_refusal(number: u64, position: u64, out: &mut [u8]) -> WriteAnswer
 
 // The header's line and the ID's.
 fn put_front(m: &[u8], body: HeaderBody, tail: u64, out: &mut [u8], at: usize) -> usize
-    requires { ⌜ There (now m) (body .messageId) (body .messageIdLen) × Room (now out) at (front-text (now m) body tail) ⌝ }
+    requires { ⌜ There (now m) (body .messageIdStart) (body .messageIdLen) × Room (now out) at (front-text (now m) body tail) ⌝ }
     ensures { λ r. ⌜ Put (front-text (now (m .entry)) body tail) (now (out .entry)) at (now (out .exit)) r ⌝ }
 {
     let a = put_header(
-        body.version,
-        body.messageType,
-        body.suite,
-        body.contentType,
-        body.frameLength,
+        body.numbers.version,
+        body.numbers.messageType,
+        body.numbers.suite,
+        body.numbers.contentType,
+        body.numbers.frameLength,
         tail,
         out,
         at,
@@ -57,7 +57,7 @@ fn put_front(m: &[u8], body: HeaderBody, tail: u64, out: &mut [u8], at: usize) -
     put_part_line(
         m,
         b"id",
-        body.messageId as usize,
+        body.messageIdStart as usize,
         body.messageIdLen as usize,
         out,
         a,
@@ -82,7 +82,7 @@ fn put_tables(
 }
 
 // Version 2 ends with the suite data.
-fn put_data(m: &[u8], version: u64, start: usize, len: usize, out: &mut [u8], at: usize) -> usize
+fn put_data(m: &[u8], version: u32, start: usize, len: usize, out: &mut [u8], at: usize) -> usize
     requires { ⌜ There (now m) start len × Room (now out) at (data-text (now m) version start len) ⌝ }
     ensures { λ r. ⌜ Put (data-text (now (m .entry)) version start len) (now (out .entry)) at (now (out .exit)) r ⌝ }
 {
@@ -107,16 +107,16 @@ fn put_body(
     let b = put_tables(
         m,
         pairs,
-        body.pairs as usize,
+        body.pairCount as usize,
         keys,
-        body.keys as usize,
+        body.keyCount as usize,
         out,
         a,
     );
     put_data(
         m,
-        body.version,
-        body.suiteData as usize,
+        body.numbers.version,
+        body.suiteDataStart as usize,
         body.suiteDataLen as usize,
         out,
         b,

@@ -10,7 +10,7 @@ ghost use Rattle.listing_text.specs.Listing.{number-field, number-fields
 ghost use Rattle.text.specs.Put.{Room, Put, There};
 
 // A number of one byte, in its two digits.
-fn put_u8_field(x: u64, out: &mut [u8], at: usize) -> usize
+fn put_u8_field(x: u32, out: &mut [u8], at: usize) -> usize
     requires { ⌜ Room (now out) at (number-field 1 x) ⌝ }
     ensures { λ r. ⌜ Put (number-field 1 x) (now (out .entry)) at (now (out .exit)) r ⌝ }
 {
@@ -19,7 +19,7 @@ fn put_u8_field(x: u64, out: &mut [u8], at: usize) -> usize
 }
 
 // A number of two bytes, in its four digits.
-fn put_u16_field(x: u64, out: &mut [u8], at: usize) -> usize
+fn put_u16_field(x: u32, out: &mut [u8], at: usize) -> usize
     requires { ⌜ Room (now out) at (number-field 2 x) ⌝ }
     ensures { λ r. ⌜ Put (number-field 2 x) (now (out .entry)) at (now (out .exit)) r ⌝ }
 {
@@ -29,9 +29,9 @@ fn put_u16_field(x: u64, out: &mut [u8], at: usize) -> usize
 
 // Type, suite and content type.
 fn put_number_fields(
-    messageType: u64,
-    suite: u64,
-    contentType: u64,
+    messageType: u32,
+    suite: u32,
+    contentType: u32,
     out: &mut [u8],
     at: usize,
 ) -> usize
@@ -52,11 +52,11 @@ fn put_decimal_fields(x: u64, y: u64, out: &mut [u8], at: usize) -> usize
 }
 
 fn put_header_fields(
-    version: u64,
-    messageType: u64,
-    suite: u64,
-    contentType: u64,
-    frameLength: u64,
+    version: u32,
+    messageType: u32,
+    suite: u32,
+    contentType: u32,
+    frameLength: u32,
     tail: u64,
     out: &mut [u8],
     at: usize,
@@ -64,17 +64,17 @@ fn put_header_fields(
     requires { ⌜ Room (now out) at (header-fields version messageType suite contentType frameLength tail) ⌝ }
     ensures { λ r. ⌜ Put (header-fields version messageType suite contentType frameLength tail) (now (out .entry)) at (now (out .exit)) r ⌝ }
 {
-    let a = put_decimal_field(version, out, at);
+    let a = put_decimal_field(version as u64, out, at);
     let b = put_number_fields(messageType, suite, contentType, out, a);
-    put_decimal_fields(frameLength, tail, out, b)
+    put_decimal_fields(frameLength as u64, tail, out, b)
 }
 
 pub fn put_header(
-    version: u64,
-    messageType: u64,
-    suite: u64,
-    contentType: u64,
-    frameLength: u64,
+    version: u32,
+    messageType: u32,
+    suite: u32,
+    contentType: u32,
+    frameLength: u32,
     tail: u64,
     out: &mut [u8],
     at: usize,
