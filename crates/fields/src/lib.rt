@@ -3,7 +3,8 @@ ghost use mathlib.Core.Path.{_≡_};
 ghost use Rattle.format.specs.Shared.{one-or-two, frame-fits};
 
 // Each has the 32 bits of the frame length, so that no refusal has to speak of a longer one; and the others, which are stored in
-// fewer, are tested as a host hands them over: 257 is no version, and is not cut to 1.
+// fewer, are tested as a host hands them over: 257 is no version, and is not cut to 1. A host's record is this one.
+#[repr(C)]
 pub struct BodyNumbers {
     pub version: u32,
     pub messageType: u32,

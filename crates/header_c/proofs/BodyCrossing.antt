@@ -11,15 +11,15 @@ use Rattle.request.specs.Codes.{which-of, mode-of, max-of}
 use Rattle.request.specs.declared.Request.{Request}
 use Rattle.body_reader.specs.Codes.{body-of}
 use Rattle.body_reader.specs.Codes.{ReadsBody as Reads}
-use Rattle.body_reader.specs.declared.HeaderBody.{HeaderBody as BodyNumbers}
+use Rattle.body_reader.specs.declared.HeaderBody.{HeaderBody as BodyCode}
 use Rattle.body_reader.specs.declared.HeaderBodyAnswer.{HeaderBodyAnswer}
 use Rattle.body_reader.specs.declared.HeaderBodyAnswer.the-variants.{Accepted, Refused}
 use Rattle.header_c.specs.declared.HeaderBody.{HeaderBody}
 use Rattle.header_c.specs.Asked.{which-asked, mode-asked, max-asked, request-asked}
 use Rattle.header_c.specs.Exports.{body-with, no-body, body-record, body-fields, ReadsBody, answer-number, answer-position}
 
-pub body-accepted : (a : HeaderBodyAnswer) (b : BodyNumbers) (t : ℕ) → a ≡ Accepted b t → body-with b t ≡ body-fields a
-body-accepted a b t e = sym (ap body-fields e)
+pub body-accepted : (a : HeaderBodyAnswer) (b : BodyCode) (t : ℕ) → a ≡ Accepted b t → (r : HeaderBody) → r ≡ body-with b t → r ≡ body-fields a
+body-accepted a b t e r f = f ∙ sym (ap body-fields e)
 
 pub body-refused : (a : HeaderBodyAnswer) (q : Refusal) → a ≡ Refused q → (r : HeaderBody) → r ≡ no-body (q .number) (q .position) → r ≡ body-fields a
 body-refused a q e r f = f ∙ sym (ap body-fields e)
@@ -57,13 +57,13 @@ position-as (accepted b t) = refl
 position-as (refused k p) = refl
 
 module _ (o : Answer BodyRead) (a : HeaderBodyAnswer) (is : a ≡ body-of o) where
-  pub number-accepted : (b : BodyNumbers) (t : ℕ) → a ≡ Accepted b t → 0 ≡ answer-number o
+  pub number-accepted : (b : BodyCode) (t : ℕ) → a ≡ Accepted b t → 0 ≡ answer-number o
   number-accepted b t e = sym (ap code-number (sym is ∙ e)) ∙ number-as o
 
   pub number-refused : (q : Refusal) → a ≡ Refused q → q .number ≡ answer-number o
   number-refused q e = sym (ap code-number (sym is ∙ e)) ∙ number-as o
 
-  pub position-accepted : (b : BodyNumbers) (t : ℕ) → a ≡ Accepted b t → t ≡ answer-position o
+  pub position-accepted : (b : BodyCode) (t : ℕ) → a ≡ Accepted b t → t ≡ answer-position o
   position-accepted b t e = sym (ap code-position (sym is ∙ e)) ∙ position-as o
 
   pub position-refused : (q : Refusal) → a ≡ Refused q → q .position ≡ answer-position o

@@ -12,7 +12,7 @@ use Rattle.format.specs.Fields.{PairAt, EncryptedDataKeyAt}
 use Rattle.format.specs.Context.{read-aad-section-into}
 use Rattle.format.specs.Keys.{read-encrypted-data-keys-section-into}
 use Rattle.format.specs.Auth.{HeaderAuth as AuthTag}
-use Rattle.format.specs.Lent.{Writing, written, pair-numbers, key-numbers, writing-header-body}
+use Rattle.format.specs.Lent.{Writing, written, pair-numbers, key-numbers}
 use Rattle.wire.specs.declared.Refusal.{Refusal}
 use Rattle.request.specs.Codes.{mode-of, max-of}
 use Rattle.request.specs.declared.Max.{Max}
@@ -34,15 +34,12 @@ use Rattle.checks.specs.Answers.{write-answer-of}
 use Rattle.checks.specs.Answers.{Writes as Answers}
 use Rattle.checks.specs.declared.WriteAnswer.{WriteAnswer}
 use Rattle.checks.specs.declared.WriteAnswer.the-variants as write
-use Rattle.body_write.specs.Lent.{body-to-write}
-use Rattle.body_write.specs.declared.Numbers.{Numbers}
 use Rattle.header_c.specs.declared.HeaderSection.{HeaderSection}
 use Rattle.header_c.specs.declared.HeaderAuth.{HeaderAuth}
 use Rattle.header_c.specs.declared.HeaderPlace.{HeaderPlace}
 use Rattle.header_c.specs.declared.HeaderWritten.{HeaderWritten}
-use Rattle.header_c.specs.declared.HeaderNumbers.{HeaderNumbers}
 use Rattle.header_c.specs.Asked.{which-asked, mode-asked, max-asked, request-asked}
-use Rattle.header_c.specs.Exports.{section-record, context-fields, keys-fields, auth-record, auth-fields, place-record, found-fields, written-record, write-fields, Writes, numbers-of, body-lent}
+use Rattle.header_c.specs.Exports.{section-record, context-fields, keys-fields, auth-record, auth-fields, place-record, found-fields, written-record, write-fields, Writes}
 
 -- a number that is tested
 module _ {A : Type 0} (n k : ℕ) (x y : A) where
@@ -130,8 +127,3 @@ found-crosses o a r e f = e ∙ ap found-fields f ∙ found-as o
 
 pub write-crosses : (w : Writing) (before after : List ℕ) (a : WriteAnswer) (r : HeaderWritten) → r ≡ write-fields a → Answers w before after a → Writes w before after r
 write-crosses w before after a r e f = record { answer = e ∙ ap write-fields (f .answer) ∙ write-as (written w before); output = f .output }
-
-pub body-crosses : (n : HeaderNumbers) (v : Numbers) → v ≡ numbers-of n → (messageId suiteData text pairs keys before after : List ℕ) (a : WriteAnswer) (r : HeaderWritten) → r ≡ write-fields a
-    → Answers (writing-header-body (body-to-write v messageId suiteData text pairs keys)) before after a
-    → Writes (writing-header-body (body-lent n messageId suiteData text pairs keys)) before after r
-body-crosses n v is messageId suiteData text pairs keys before after a r e f = write-crosses _ before after a r e (rw is at f)

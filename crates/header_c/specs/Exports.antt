@@ -8,9 +8,8 @@ use Rattle.format.specs.Serialize.{Part}
 use Rattle.format.specs.Fields.{HeaderBody as BodyRead}
 use Rattle.format.specs.Auth.{no-header-auth}
 use Rattle.format.specs.Auth.{HeaderAuth as AuthTag}
-use Rattle.format.specs.Lent.{pair-table-after, key-table-after, Writing, written, output-after, BodyToWrite}
-use Rattle.body_write.specs.Lent.{body-to-write}
-use Rattle.body_write.specs.declared.Numbers.{Numbers}
+use Rattle.format.specs.Lent.{pair-table-after, key-table-after, Writing, written, output-after}
+use Rattle.fields.specs.declared.BodyNumbers.{BodyNumbers}
 use Rattle.context.specs.declared.ContextAnswer.{ContextAnswer}
 use Rattle.context.specs.declared.ContextAnswer.the-variants as context
 use Rattle.context.specs.declared.FoundAnswer.{FoundAnswer}
@@ -19,7 +18,7 @@ use Rattle.keys.specs.declared.KeysAnswer.{KeysAnswer}
 use Rattle.keys.specs.declared.KeysAnswer.the-variants as keys
 use Rattle.auth.specs.declared.AuthRead.{AuthRead}
 use Rattle.body_reader.specs.Codes.{body-code}
-use Rattle.body_reader.specs.declared.HeaderBody.{HeaderBody as BodyNumbers}
+use Rattle.body_reader.specs.declared.HeaderBody.{HeaderBody as BodyCode}
 use Rattle.body_reader.specs.declared.HeaderBodyAnswer.{HeaderBodyAnswer}
 use Rattle.body_reader.specs.declared.HeaderBodyAnswer.the-variants as body
 use Rattle.checks.specs.declared.WriteAnswer.{WriteAnswer}
@@ -29,7 +28,6 @@ use Rattle.header_c.specs.declared.HeaderAuth.{HeaderAuth}
 use Rattle.header_c.specs.declared.HeaderBody.{HeaderBody}
 use Rattle.header_c.specs.declared.HeaderPlace.{HeaderPlace}
 use Rattle.header_c.specs.declared.HeaderWritten.{HeaderWritten}
-use Rattle.header_c.specs.declared.HeaderNumbers.{HeaderNumbers}
 
 -- a section of pairs or of keys
 abbrev pub section-record : {A : Type 0} → Answer (List A) → HeaderSection
@@ -53,42 +51,35 @@ abbrev pub auth-fields : AuthRead → HeaderAuth
 auth-fields a = record { number = a .number; position = a .position; tail = a .tail; iv = a .iv; tag = a .tag }
 
 -- a body
-abbrev pub body-with : BodyNumbers → ℕ → HeaderBody
+abbrev pub body-with : BodyCode → ℕ → HeaderBody
 body-with b t =
     record {
       number = 0;
       position = 0;
-      version = b .version;
-      messageType = b .messageType;
-      suite = b .suite;
-      messageId = b .messageId;
+      numbers = b .numbers;
+      messageIdStart = b .messageIdStart;
       messageIdLen = b .messageIdLen;
-      pairs = b .pairs;
-      keys = b .keys;
-      contentType = b .contentType;
-      headerIvLength = b .headerIvLength;
-      frameLength = b .frameLength;
-      suiteData = b .suiteData;
+      pairCount = b .pairCount;
+      keyCount = b .keyCount;
+      suiteDataStart = b .suiteDataStart;
       suiteDataLen = b .suiteDataLen;
       tail = t;
     }
+
+abbrev no-numbers : BodyNumbers
+no-numbers = record { version = 0; messageType = 0; suite = 0; contentType = 0; headerIvLength = 0; frameLength = 0 }
 
 abbrev pub no-body : ℕ → ℕ → HeaderBody
 no-body k p =
     record {
       number = k;
       position = p;
-      version = 0;
-      messageType = 0;
-      suite = 0;
-      messageId = 0;
+      numbers = no-numbers;
+      messageIdStart = 0;
       messageIdLen = 0;
-      pairs = 0;
-      keys = 0;
-      contentType = 0;
-      headerIvLength = 0;
-      frameLength = 0;
-      suiteData = 0;
+      pairCount = 0;
+      keyCount = 0;
+      suiteDataStart = 0;
       suiteDataLen = 0;
       tail = 0;
     }
@@ -138,18 +129,3 @@ write-fields (write.Refused q) = record { number = q .number; length = 0 }
 pub record Writes (w : Writing) (before after : List ℕ) (r : HeaderWritten) : Type 0 where
   pub answer : r ≡ written-record (written w before)
   pub output : after ≡ output-after w before
-
-abbrev pub numbers-of : HeaderNumbers → Numbers
-numbers-of n =
-    record {
-      version = n .version;
-      messageType = n .messageType;
-      suite = n .suite;
-      contentType = n .contentType;
-      headerIvLength = n .headerIvLength;
-      frameLength = n .frameLength;
-    }
-
--- what the body writer is lent
-abbrev pub body-lent : HeaderNumbers → List ℕ → List ℕ → List ℕ → List ℕ → List ℕ → BodyToWrite
-body-lent n messageId suiteData text pairs keys = body-to-write (numbers-of n) messageId suiteData text pairs keys

@@ -21,7 +21,7 @@ fn auth_record(a: AuthRead) -> HeaderAuth
 }
 
 #[no_mangle]
-pub extern "C" fn header_read_header_auth_tag(m: &[u8], start: u64, suite: u16) -> HeaderAuth
+pub extern "C" fn header_read_header_auth_tag(m: &[u8], start: u64, suite: u32) -> HeaderAuth
     ensures { λ r. ⌜ r ≡ auth-record (operation (read-header-auth-tag suite) (now (m .entry)) start) ⌝ }
 {
     auth_record(auth::read_header_auth_tag(m, start, suite))

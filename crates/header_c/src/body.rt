@@ -2,6 +2,7 @@
 use crate::HeaderBody;
 use crate::asked::request_asked;
 use body_reader::HeaderBodyAnswer;
+use fields::BodyNumbers;
 use wire::Refusal;
 ghost use mathlib.Core.Path.{_≡_};
 ghost use lib.ListN.{length};
@@ -9,27 +10,48 @@ ghost use Rattle.format.specs.Read.{operation};
 ghost use Rattle.format.specs.Body.{read-header-body};
 ghost use Rattle.request.specs.Codes.{which-of, mode-of, max-of};
 ghost use Rattle.header_c.specs.Asked.{which-asked, mode-asked, max-asked};
-ghost use Rattle.header_c.specs.Exports.{no-body, body-fields, ReadsBody};
+ghost use Rattle.header_c.specs.Exports.{body-with, no-body, body-fields, ReadsBody};
 
 fn no_body(q: Refusal) -> HeaderBody
     ensures { λ r. ⌜ r ≡ no-body (q .number) (q .position) ⌝ }
 {
-    HeaderBody {
-        number: q.number as u64,
-        position: q.position,
+    let numbers = BodyNumbers {
         version: 0,
         messageType: 0,
         suite: 0,
-        messageId: 0,
-        messageIdLen: 0,
-        pairs: 0,
-        keys: 0,
         contentType: 0,
         headerIvLength: 0,
         frameLength: 0,
-        suiteData: 0,
+    };
+    HeaderBody {
+        number: q.number as u64,
+        position: q.position,
+        numbers,
+        messageIdStart: 0,
+        messageIdLen: 0,
+        pairCount: 0,
+        keyCount: 0,
+        suiteDataStart: 0,
         suiteDataLen: 0,
         tail: 0,
+    }
+}
+
+fn body_with(body: body_reader::HeaderBody, tail: u64) -> HeaderBody
+    ensures { λ r. ⌜ r ≡ body-with body tail ⌝ }
+{
+    let numbers = body.numbers;
+    HeaderBody {
+        number: 0,
+        position: 0,
+        numbers,
+        messageIdStart: body.messageIdStart,
+        messageIdLen: body.messageIdLen,
+        pairCount: body.pairCount,
+        keyCount: body.keyCount,
+        suiteDataStart: body.suiteDataStart,
+        suiteDataLen: body.suiteDataLen,
+        tail,
     }
 }
 
@@ -37,23 +59,7 @@ fn body_record(a: HeaderBodyAnswer) -> HeaderBody
     ensures { λ r. ⌜ r ≡ body-fields a ⌝ }
 {
     match a {
-        HeaderBodyAnswer::Accepted { body, tail } => HeaderBody {
-            number: 0,
-            position: 0,
-            version: body.version,
-            messageType: body.messageType,
-            suite: body.suite,
-            messageId: body.messageId,
-            messageIdLen: body.messageIdLen,
-            pairs: body.pairs,
-            keys: body.keys,
-            contentType: body.contentType,
-            headerIvLength: body.headerIvLength,
-            frameLength: body.frameLength,
-            suiteData: body.suiteData,
-            suiteDataLen: body.suiteDataLen,
-            tail,
-        },
+        HeaderBodyAnswer::Accepted { body, tail } => body_with(body, tail),
         HeaderBodyAnswer::Refused(q) => no_body(q),
     }
 }

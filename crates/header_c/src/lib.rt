@@ -1,11 +1,13 @@
 // Every operation for a host program in C or Rust. Enums don't cross the boundary: each answer is a struct of numbers, by value.
-pub mod asked;
-pub mod auth_tag;
-pub mod body;
-pub mod finding;
-pub mod listing;
-pub mod sections;
-pub mod writers;
+mod asked;
+mod auth_tag;
+mod body;
+mod finding;
+mod listing;
+mod sections;
+mod writers;
+
+use fields::BodyNumbers;
 
 // A section that was read: how many pairs or keys, and the tail. Number 0: accepted.
 #[repr(C)]
@@ -32,17 +34,12 @@ pub struct HeaderAuth {
 pub struct HeaderBody {
     pub number: u64,
     pub position: u64,
-    pub version: u64,
-    pub messageType: u64,
-    pub suite: u64,
-    pub messageId: u64,
+    pub numbers: BodyNumbers,
+    pub messageIdStart: u64,
     pub messageIdLen: u64,
-    pub pairs: u64,
-    pub keys: u64,
-    pub contentType: u64,
-    pub headerIvLength: u64,
-    pub frameLength: u64,
-    pub suiteData: u64,
+    pub pairCount: u64,
+    pub keyCount: u64,
+    pub suiteDataStart: u64,
     pub suiteDataLen: u64,
     pub tail: u64,
 }
@@ -61,15 +58,4 @@ pub struct HeaderPlace {
 pub struct HeaderWritten {
     pub number: u64,
     pub length: u64,
-}
-
-// The numbers that a body writer is handed, each as wide as it is stored.
-#[repr(C)]
-pub struct HeaderNumbers {
-    pub version: u8,
-    pub messageType: u8,
-    pub suite: u16,
-    pub contentType: u8,
-    pub headerIvLength: u8,
-    pub frameLength: u32,
 }

@@ -1,11 +1,11 @@
 // The four writers. On a refusal the output is as it was.
-use crate::HeaderNumbers;
 use crate::HeaderWritten;
-use body_write::Numbers;
 use checks::WriteAnswer;
+use fields::BodyNumbers;
 ghost use mathlib.Core.Path.{_≡_};
 ghost use Rattle.format.specs.Lent.{writing-aad-section, writing-encrypted-data-keys-section, writing-header-auth-tag, writing-header-body};
-ghost use Rattle.header_c.specs.Exports.{Writes, write-fields, numbers-of, body-lent};
+ghost use Rattle.body_write.specs.Lent.{body-to-write};
+ghost use Rattle.header_c.specs.Exports.{Writes, write-fields};
 
 pub fn written_record(a: WriteAnswer) -> HeaderWritten
     ensures { λ r. ⌜ r ≡ write-fields a ⌝ }
@@ -48,7 +48,7 @@ pub extern "C" fn header_write_encrypted_data_keys_section(
 
 #[no_mangle]
 pub extern "C" fn header_write_header_auth_tag(
-    suite: u16,
+    suite: u32,
     iv: &[u8],
     tag: &[u8],
     out: &mut [u8],
@@ -58,22 +58,9 @@ pub extern "C" fn header_write_header_auth_tag(
     written_record(auth_write::write_header_auth_tag(suite, iv, tag, out))
 }
 
-fn numbers_of(n: HeaderNumbers) -> Numbers
-    ensures { λ r. ⌜ r ≡ numbers-of n ⌝ }
-{
-    Numbers {
-        version: n.version,
-        messageType: n.messageType,
-        suite: n.suite,
-        contentType: n.contentType,
-        headerIvLength: n.headerIvLength,
-        frameLength: n.frameLength,
-    }
-}
-
 #[no_mangle]
 pub extern "C" fn header_write_header_body(
-    numbers: HeaderNumbers,
+    numbers: BodyNumbers,
     messageId: &[u8],
     suiteData: &[u8],
     text: &[u8],
@@ -81,10 +68,10 @@ pub extern "C" fn header_write_header_body(
     keys: &[u32],
     out: &mut [u8],
 ) -> HeaderWritten
-    ensures { λ r. ⌜ Writes (writing-header-body (body-lent numbers (now (messageId .entry)) (now (suiteData .entry)) (now (text .entry)) (now (pairs .entry)) (now (keys .entry)))) (now (out .entry)) (now (out .exit)) r ⌝ }
+    ensures { λ r. ⌜ Writes (writing-header-body (body-to-write numbers (now (messageId .entry)) (now (suiteData .entry)) (now (text .entry)) (now (pairs .entry)) (now (keys .entry)))) (now (out .entry)) (now (out .exit)) r ⌝ }
 {
     written_record(body_write::write_header_body(
-        numbers_of(numbers),
+        numbers,
         messageId,
         suiteData,
         text,

@@ -6,4 +6,4 @@ use Rattle.header_c.proofs.body.body_record.Tie as tie
 ruleset laws = (body-accepted, body-refused, needs)
 
 pub body-record-spec : {M : Type 1} → statement M
-body-record-spec = tie.close (tie.spec (λ c. search laws) (λ c. search laws) (λ c κs. search laws) (λ c. search laws) (λ c. search laws))
+body-record-spec = tie.close (tie.spec (λ c. search laws) (λ c κs. search laws) (λ c. search laws) (λ c κs. search laws) (λ c. search laws) (λ c. search laws))
