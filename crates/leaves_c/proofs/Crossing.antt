@@ -8,6 +8,12 @@ use lib.Dec.{leb}
 use borrow.Author.Tests.{le-leb, lt-leb, leb-true, leb-false}
 use Rattle.format.specs.Read.{Answer}
 use Rattle.format.specs.Serialize.{Part}
+use Rattle.format.specs.Shared.{suite-version}
+use Rattle.suites.specs.Table.{suite-of}
+use Rattle.suites.specs.declared.Suite.{Suite}
+use Rattle.suites.specs.declared.SuiteAnswer.{SuiteAnswer}
+use Rattle.suites.specs.declared.SuiteAnswer.the-variants.{Known, Unknown}
+use Rattle.suites.proofs.Answers.{no-version, its-version}
 use Rattle.wire.specs.Codes.{number-of, span-of}
 use Rattle.wire.specs.declared.Refusal.{Refusal}
 use Rattle.wire.specs.declared.Number.{Number}
@@ -18,6 +24,14 @@ use Rattle.comparing.specs.declared.Order.{Order}
 use Rattle.leaves_c.specs.declared.LeafNumber.{LeafNumber}
 use Rattle.leaves_c.specs.declared.LeafPart.{LeafPart}
 use Rattle.leaves_c.specs.Exports.{number-fields, part-fields, number-record, part-record, truth, order-number, can-put}
+
+-- a suite
+module _ (n : ℕ) (x : SuiteAnswer) (is : x ≡ suite-of n) where
+  pub no-suite : x ≡ Unknown → 0 ≡ suite-version n
+  no-suite e = sym (no-version n x is e)
+
+  pub a-suite : (k : Suite) → x ≡ Known k → k .version ≡ suite-version n
+  a-suite k e = its-version n x is k e
 
 -- what was read
 pub number-is : (x : Number) (v t : ℕ) → x ≡ number.Is v t → record { refusal = 0; position = 0; value = v; tail = t } ≡ number-fields x

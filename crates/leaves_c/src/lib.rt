@@ -1,5 +1,7 @@
 // The leaves for a host program in C or Rust: numbers and structs of numbers cross the boundary by value.
 use comparing::Order;
+use suites::Suite;
+use suites::SuiteAnswer;
 use wire::Number;
 use wire::Span;
 ghost use mathlib.Core.Path.{_≡_};
@@ -69,11 +71,16 @@ fn part_record(x: Span) -> LeafPart
     }
 }
 
+// 0 where the number is in no row of the table.
 #[no_mangle]
-pub extern "C" fn leaf_suite_version(number: u16) -> u8
+pub extern "C" fn leaf_suite_version(number: u32) -> u8
     ensures { λ r. ⌜ r ≡ suite-version number ⌝ }
 {
-    suites::suite_version(number)
+    let s = Suite::from_number(number);
+    let SuiteAnswer::Known(known) = s else {
+        return 0;
+    };
+    known.version
 }
 
 #[no_mangle]
