@@ -1,2 +1,3 @@
 pub mod Calls
+pub mod Long
 pub mod Occurs

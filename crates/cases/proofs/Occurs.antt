@@ -19,7 +19,8 @@ use Rattle.format.proofs.Suites.{every-member}
 use Rattle.format.proofs.Messages.{refused-stays}
 use Rattle.format.proofs.Firsts.{or-cases}
 use Rattle.cases.specs.Occurs.{Answers, listed-for, Occurs}
-use Rattle.cases.proofs.Calls.{number-of, Call, calls, said, sections, far-and-short, section-answers, opening-bytes, is-v1, body-calls, body-answers, old-form, strict-section, strict-body, no-table, no-pair, key-calls, key-answers, auth-said, auth-calls, auth-answers}
+use Rattle.cases.proofs.Long.{long, long-section, long-body, long-in-body}
+use Rattle.cases.proofs.Calls.{number-of, Call, calls, said, sections, others, far-and-short, section-answers, opening-bytes, is-v1, body-calls, body-answers, old-form, strict-section, strict-body, no-table, no-pair, key-calls, key-answers, auth-said, auth-calls, auth-answers}
 
 -- a number that is answered by a call
 answered : {A : Type 0} (r : Reader A) (c : Call) (k : ℕ) → said r c ≡ some k → Answers r k
@@ -60,7 +61,11 @@ abbrev common : List ℕ
 common = 1 ∷ 2 ∷ section-refusals tolerant
 
 section-answered : (mode : Mode) (k : ℕ) → List·Memᴰ k common → Answers (read-aad-section mode) k
-section-answered mode = each-answered (read-aad-section mode) (far-and-short ++ calls sections) common (section-answers mode)
+unfolding every section-refusals
+section-answered mode k h =
+    ⊎-elim (λ e. answered (read-aad-section mode) (long, 0) k (long-section mode ∙ ap some (sym e)))
+    (each-answered (read-aad-section mode) (far-and-short ++ calls sections) (others common) (section-answers mode) k)
+    (one-apart 13 (others common) common refl k h)
 
 strict-answered : (k : ℕ) → List·Memᴰ k (1 ∷ 2 ∷ section-refusals strict) → Answers (read-aad-section strict) k
 unfolding every section-refusals
@@ -97,8 +102,17 @@ without-21 either = refl
 without-21 v1-only = refl
 without-21 v2-only = refl
 
+without-13 : (which : Which) → every (λ k. eqb k 13 || elem (others (listed-for which tolerant)) k) (listed-for which tolerant) ≡ true
+unfolding every opening-refusals section-refusals reserved-refusals frame-refusals closing-refusals body-refusals
+without-13 either = refl
+without-13 v1-only = refl
+without-13 v2-only = refl
+
 body-answered : (which : Which) (mode : Mode) (k : ℕ) → List·Memᴰ k (listed-for which tolerant) → Answers (read-header-body which mode (at-most 1) 4 0) k
-body-answered which mode = each-answered (read-header-body which mode (at-most 1) 4 0) (body-calls which) (listed-for which tolerant) (body-answers which mode)
+body-answered which mode k h =
+    ⊎-elim (λ e. answered (read-header-body which mode (at-most 1) 4 0) (long-body which, 0) k (long-in-body which mode ∙ ap some (sym e)))
+    (each-answered (read-header-body which mode (at-most 1) 4 0) (body-calls which) (others (listed-for which tolerant)) (body-answers which mode) k)
+    (one-apart 13 (others (listed-for which tolerant)) (listed-for which tolerant) (without-13 which) k h)
 
 of-body : (which : Which) (mode : Mode) (k : ℕ) → List·Memᴰ k (listed-for which mode) → Answers (read-header-body which mode (at-most 1) 4 0) k
 of-body which tolerant k h = body-answered which tolerant k h

@@ -9,11 +9,12 @@ use lib.Dec.{eqb}
 use lib.ListN.{take, drop, replicate}
 use Rattle.format.specs.Read.{operation}
 use Rattle.format.specs.Serialize.{every}
+use Rattle.format.specs.Fields.{Pair, EncryptedDataKey}
 use Rattle.format.specs.Context.{Mode, tolerant, strict, read-aad-section-into, look-up, find-value}
 use Rattle.format.specs.Keys.{no-max, at-most, read-encrypted-data-keys-section-into}
 use Rattle.format.specs.Body.{Which, either, v1-only, v2-only, read-header-body}
 use Rattle.format.specs.Auth.{read-header-auth-tag, read-header-auth-tag-of, write-header-auth-tag, zeros}
-use Rattle.format.specs.Checks.{auth-checks}
+use Rattle.format.specs.Checks.{first, pairs-checks, keys-checks, auth-checks}
 use Rattle.format.specs.Lent.{pair-numbers, key-numbers, items, part-in, in-text, table-checks, Writing, refusal-of, fields-to-write, writing-aad-section, writing-encrypted-data-keys-section, writing-header-body, writing-header-auth-tag}
 use Rattle.cases.specs.Cases.{Expected, accepts, refuses, shortage-at, is, body-numbers, H, opened, laid-out}
 use Rattle.cases.specs.Headers.{bytes-from, V2}
@@ -33,6 +34,9 @@ pub data Fault : Type 0 where
   auth : ℕ → List ℕ → ℕ → Expected → Fault
   -- a writer's call, into an output of no bytes
   write : Writing → ℕ → Fault
+  -- pairs and keys that a writer is handed, whatever their table
+  write-pairs : List Pair → ℕ → Fault
+  write-keys : List EncryptedDataKey → ℕ → Fault
 
 abbrev none-else : Option ℕ → ℕ → Bool
 none-else none k = false
@@ -49,14 +53,16 @@ answered (body which pairRoom keyRoom m s want) = is body-numbers (operation (re
 answered (strictly m want) = is body-numbers (operation (read-header-body either strict no-max 0 0) m 0) want
 answered (auth suite m s want) = is no-numbers (operation (read-header-auth-tag suite) m s) want
 answered (write w k) = none-else (refusal-of w []) k
+answered (write-pairs ps k) = none-else (first (pairs-checks ps)) k
+answered (write-keys ks k) = none-else (first (keys-checks ks)) k
 
 -- H up to its key section's end, with another rest
 abbrev before-closing : List ℕ → List ℕ
 before-closing rest = take 48 H ++ rest
 
--- a call of the body writer that writes H, but for the numbers given, over the text 6C 61 6E 67 63 79 FF
-abbrev to-write : ℕ → ℕ → ℕ → List ℕ → List ℕ → List ℕ → ℕ → ℕ → List ℕ → ℕ → Writing
-to-write version messageType suite messageId pairTable keyTable contentType iv suiteData frame =
+-- a call of the body writer that writes H, but for the text and the numbers given
+abbrev to-write-over : List ℕ → ℕ → ℕ → ℕ → List ℕ → List ℕ → List ℕ → ℕ → ℕ → List ℕ → ℕ → Writing
+to-write-over text version messageType suite messageId pairTable keyTable contentType iv suiteData frame =
     writing-header-body (record {
       version = version;
       messageType = messageType;
@@ -66,30 +72,16 @@ to-write version messageType suite messageId pairTable keyTable contentType iv s
       frameLength = frame;
       messageId = messageId;
       suiteData = suiteData;
-      text = 0x6C ∷ 0x61 ∷ 0x6E ∷ 0x67 ∷ 0x63 ∷ 0x79 ∷ 0xFF ∷ [];
-      pairTable = pairTable;
-      keyTable = keyTable;
-    })
-
-abbrev id : List ℕ
-id = take 16 (drop 4 H)
-
--- the same over another text
-abbrev over : List ℕ → List ℕ → List ℕ → Writing
-over text pairTable keyTable =
-    writing-header-body (record {
-      version = 1;
-      messageType = 0x80;
-      suite = 0x0178;
-      contentType = 0;
-      headerIvLength = 0;
-      frameLength = 0;
-      messageId = id;
-      suiteData = [];
       text = text;
       pairTable = pairTable;
       keyTable = keyTable;
     })
+
+abbrev to-write : ℕ → ℕ → ℕ → List ℕ → List ℕ → List ℕ → ℕ → ℕ → List ℕ → ℕ → Writing
+to-write = to-write-over (0x6C ∷ 0x61 ∷ 0x6E ∷ 0x67 ∷ 0x63 ∷ 0x79 ∷ 0xFF ∷ [])
+
+abbrev id : List ℕ
+id = take 16 (drop 4 H)
 
 -- no UTF-8
 abbrev long-text : ℕ → List ℕ
@@ -169,12 +161,14 @@ faults =
     ∷ write (to-write 1 0x80 0x0178 id (0 ∷ 4 ∷ 4 ∷ 2 ∷ []) [] 2 12 [] 0) 20
     ∷ write (to-write 1 0x80 0x0178 id (0 ∷ 4 ∷ 4 ∷ 2 ∷ []) [] 1 12 [] 1) 20
     ∷ write (to-write 1 0x80 0x0178 id (0 ∷ 4 ∷ 4 ∷ 2 ∷ []) [] 2 12 [] 1) 28
-    ∷ write (over (zeros 65530) (0 ∷ 65530 ∷ 0 ∷ 0 ∷ []) (0 ∷ [])) 13
+    ∷ write (to-write-over (zeros 65530) 1 0x80 0x0178 id (0 ∷ 65530 ∷ 0 ∷ 0 ∷ []) (0 ∷ []) 0 0 [] 0) 13
     -- write a section, a record
     ∷ write (writing-aad-section (long-text 65536) (0 ∷ 65536 ∷ 65536 ∷ 1 ∷ [])) 26
     ∷ write (writing-aad-section (long-text 65536) (0 ∷ 65536 ∷ 0 ∷ 0 ∷ [])) 27
     ∷ write (writing-encrypted-data-keys-section (long-text 65536) (0 ∷ 0 ∷ 0 ∷ 65536 ∷ 65536 ∷ 1 ∷ [])) 26
     ∷ write (writing-encrypted-data-keys-section (long-text 65536) (0 ∷ 1 ∷ 0 ∷ 65536 ∷ 0 ∷ 0 ∷ [])) 27
+    ∷ write-pairs (replicate 65536 (record { key = 0xFF ∷ []; value = [] })) 27
+    ∷ write-keys (replicate 65536 (record { keyProviderId = 0xFF ∷ []; keyProviderInfo = []; ciphertext = [] })) 27
     ∷ write (writing-aad-section (zeros 65526) (0 ∷ 0 ∷ 0 ∷ 0 ∷ 0 ∷ 0 ∷ 0 ∷ 65526 ∷ [])) 12
     ∷ write (writing-aad-section [] (0 ∷ 0 ∷ [])) 26
     ∷ write (writing-aad-section [] []) 28
