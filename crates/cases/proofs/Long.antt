@@ -4,15 +4,15 @@ use mathlib.Core.Path.{_≡_, refl, ap, _∙_}
 use mathlib.Core.Bool.{Bool, true, false}
 use mathlib.Core.Option.{some}
 use mathlib.Core.List.{List, [], _∷_, _++_}
-use Prim.Native.Nat.{ℕ, _+_, _≤_}
+use Prim.Native.Nat.{ℕ, _≤_}
 use native.Mathlib.Omega.{arith}
 use lib.ListN.{length, take, drop, replicate}
-use Rattle.format.specs.Read.{Reader, error, go-on, _>>=_, answer, operation}
+use Rattle.format.specs.Read.{Reader, error, go-on, _>>=_}
 use Rattle.format.specs.Serialize.{write-uint16}
 use Rattle.format.specs.Shared.{suites, version-in}
 use Rattle.format.specs.Context.{Mode, read-aad-section}
 use Rattle.format.specs.Keys.{at-most}
-use Rattle.format.specs.Body.{Which, either, v1-only, v2-only, Request, request, tests-frames, after-context, after-opening, read-body, read-header-body, write-opening-of}
+use Rattle.format.specs.Body.{Which, either, v1-only, v2-only, request, tests-frames, after-context, after-opening, read-body, read-header-body, write-opening-of}
 use Rattle.format.proofs.Tests.{is-leb}
 use Rattle.format.proofs.Ends.{Top, TopOk, top-bytes, top-at, opening-exact}
 use Rattle.format.proofs.Messages.{operation-here}

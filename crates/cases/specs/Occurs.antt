@@ -1,6 +1,6 @@
 -- Each number of the lists in Rattle.format.specs.Refusals does occur: some call of the operation answers it. Assumes nothing.
 use mathlib.Core.Path.{_≡_}
-use mathlib.Core.List.{List, [], _∷_, List·Memᴰ}
+use mathlib.Core.List.{List, List·Memᴰ}
 use Prim.Native.Nat.{ℕ}
 use Rattle.format.specs.Read.{Reader, refused, operation}
 use Rattle.format.specs.Context.{Mode, read-aad-section-into, find-value}

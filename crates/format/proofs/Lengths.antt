@@ -1,31 +1,30 @@
 -- The lengths that stand on both sides of demand 3, each held to its number. Assumes nothing.
 use mathlib.Core.Path.{_≡_, refl, sym, ap, _∙_}
 use mathlib.Core.Bool.{Bool, true, false, not, cond, _||_}
-use mathlib.Core.Logic.{_⊎_, inl, inr, ⊎-elim}
+use mathlib.Core.Logic.{⊎-elim}
 use mathlib.Core.Option.{Option, none, some}
-use mathlib.Core.List.{List, [], _∷_, _++_, append-assoc, map, map-append, List·Memᴰ, List·Memᴰ·not-nil, List·Memᴰ·cases-cons}
+use mathlib.Core.List.{List, [], _∷_, _++_, map, map-append, List·Memᴰ, List·Memᴰ·not-nil, List·Memᴰ·cases-cons}
 use Prim.Native.Nat.{ℕ, suc, _+_, _≤_, _<_}
 use native.Mathlib.Omega.{arith}
 use lib.Dec.{leb, ltb, eqb}
 use lib.ListN.{length, length-append}
 use Rattle.format.specs.Read.{ReadResult, success, more-needed, error, go-on, _>>=_, _>>_, return, test, accepted, operation}
-use Rattle.format.specs.Serialize.{Bytes, images, sum}
+use Rattle.format.specs.Serialize.{Bytes, images}
 use Rattle.format.specs.Shared.{by, one-or-two, suite-version, id-length, iv-length, tag-length, commit-key-length}
 use Rattle.format.specs.Fields.{Pair, PairAt, pair-of, pair-parts, Fields, HeaderBody}
-use Rattle.format.specs.Context.{seen, pair-length, linear-length, pairs-limit, Mode, read-aad-pair, read-next-aad-pair, read-aad-section-into}
+use Rattle.format.specs.Context.{seen, pair-length, linear-length, pairs-limit, Mode, read-aad-pair, read-next-aad-pair}
 use Rattle.format.specs.Keys.{Max}
-use Rattle.format.specs.Body.{Which, either, Opening, read-opening, Request, request, tests-frames, read-body, read-header-body}
+use Rattle.format.specs.Body.{Which, Opening, read-opening, request, tests-frames, read-header-body}
 use Rattle.format.specs.Auth.{HeaderAuth, read-header-auth-tag, write-header-auth-tag}
 use Rattle.format.specs.Checks.{Check, check, first, each, count-checks, pair-checks, pairs-checks, auth-checks, Accepts}
 use Rattle.format.specs.Demand3.{Has}
-use Rattle.format.specs.Sections.{ContextStands, AuthStands}
 use Rattle.format.specs.Lengths.{JustWhere, TakesTooMuch, Sized, version-1, version-2, OpeningSized, opening-1, opening-2, Lengths}
 use Rattle.format.proofs.Tests.{leb-is, nleb-is, is-leb, is-nleb, is-eqb}
-use Rattle.format.proofs.Firsts.{Holds, holds, unheld, split, join}
+use Rattle.format.proofs.Firsts.{holds, unheld, split, join}
 use Rattle.format.proofs.Context.{linear-length-snoc}
-use Rattle.format.proofs.Ends.{Top, TopOk, top-bytes, top-at, opening-exact, EndOk}
-use Rattle.format.proofs.Body.{Sent, BodyOk, top-of, end-of, body-exact}
-use Rattle.format.proofs.Accepts.{Good, good}
+use Rattle.format.proofs.Ends.{opening-exact}
+use Rattle.format.proofs.Body.{BodyOk, body-exact}
+use Rattle.format.proofs.Accepts.{good}
 use Rattle.format.proofs.ListedLaws.{Fine}
 use Rattle.format.proofs.Listed.{pair-listed}
 use Rattle.format.proofs.Messages.{accepted-took}
