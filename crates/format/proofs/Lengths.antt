@@ -119,14 +119,14 @@ opening-sized s version id tail e i t = go (eqb version 1) refl e i t
     go true q e i t = rw (is-eqb version 1 q, i, t) opening-1
     go false q e i t = rw (is-eqb version 2 e, i, t) opening-2
 
-sized : (version id iv suiteData : ℕ) → one-or-two version ≡ true → id ≡ cond (eqb version 1) (id-length 1) (id-length 2) → iv ≡ cond (eqb version 1) iv-length 0
-    → suiteData ≡ cond (eqb version 1) 0 commit-key-length → Sized version id iv suiteData
-sized version id iv suiteData e i j d = go (eqb version 1) refl e i j d
+sized : (version type id iv suiteData : ℕ) → one-or-two version ≡ true → type ≡ cond (eqb version 1) 0x80 0 → id ≡ cond (eqb version 1) (id-length 1) (id-length 2) → iv ≡ cond (eqb version 1) iv-length 0
+    → suiteData ≡ cond (eqb version 1) 0 commit-key-length → Sized version type id iv suiteData
+sized version type id iv suiteData e y i j d = go (eqb version 1) refl e y i j d
   where
-    go : (b : Bool) → eqb version 1 ≡ b → (b || eqb version 2) ≡ true → id ≡ cond b (id-length 1) (id-length 2) → iv ≡ cond b iv-length 0 → suiteData ≡ cond b 0 commit-key-length
-        → Sized version id iv suiteData
-    go true q e i j d = rw (is-eqb version 1 q, i, j, d) version-1
-    go false q e i j d = rw (is-eqb version 2 e, i, j, d) version-2
+    go : (b : Bool) → eqb version 1 ≡ b → (b || eqb version 2) ≡ true → type ≡ cond b 0x80 0 → id ≡ cond b (id-length 1) (id-length 2) → iv ≡ cond b iv-length 0 → suiteData ≡ cond b 0 commit-key-length
+        → Sized version type id iv suiteData
+    go true q e y i j d = rw (is-eqb version 1 q, y, i, j, d) version-1
+    go false q e y i j d = rw (is-eqb version 2 e, y, i, j, d) version-2
 
 opening-read : (which : Which) (m : List ℕ) (s : ℕ) → Bytes m → (o : Opening) (t : ℕ) → operation (read-opening which) m s ≡ accepted o t
     → OpeningSized s (o .version) (length (o .messageId .bytes)) t
@@ -139,19 +139,19 @@ opening-read which m s hb o t e =
 
 body-read : (which : Which) (mode : Mode) (max : Max) (pairRoom keyRoom : ℕ) (m : List ℕ) (s : ℕ) → Bytes m → (b : HeaderBody) (t : ℕ)
     → operation (read-header-body which mode max pairRoom keyRoom) m s ≡ accepted b t
-    → Sized (b .version) (length (b .messageId .bytes)) (b .headerIvLength) (length (b .suiteData .bytes))
+    → Sized (b .version) (b .messageType) (length (b .messageId .bytes)) (b .headerIvLength) (length (b .suiteData .bytes))
 unfolding read-header-body
 body-read which mode max pairRoom keyRoom m s hb b t e =
     let q = request which mode (tests-frames which) max pairRoom keyRoom in
     let (l, x) = accepted-took (body-exact q) m s hb b t e in
     let f : Fields = x .value .fields in
     let g : BodyOk q (x .value) = x .good in
-    rw (x .placed) (sized (f .version) (length (f .messageId)) (f .headerIvLength) (length (f .suiteData)) (g .top .t3) (g .top .rest .sized) (g .end .t19) (g .end .sized))
+    rw (x .placed) (sized (f .version) (f .messageType) (length (f .messageId)) (f .headerIvLength) (length (f .suiteData)) (g .top .t3) (g .top .rest .t5) (g .top .rest .sized) (g .end .t19) (g .end .sized))
 
-body-written : (f : Fields) → Accepts f → Sized (f .version) (length (f .messageId)) (f .headerIvLength) (length (f .suiteData))
+body-written : (f : Fields) → Accepts f → Sized (f .version) (f .messageType) (length (f .messageId)) (f .headerIvLength) (length (f .suiteData))
 body-written f a =
     let g = good f a in
-    sized (f .version) (length (f .messageId)) (f .headerIvLength) (length (f .suiteData)) (g .top .t3) (g .top .rest .sized) (g .end .t19) (g .end .sized)
+    sized (f .version) (f .messageType) (length (f .messageId)) (f .headerIvLength) (length (f .suiteData)) (g .top .t3) (g .top .rest .t5) (g .top .rest .sized) (g .end .t19) (g .end .sized)
 
 -- the authentication record
 auth-written : (suite iv tag : ℕ) → first (auth-checks suite iv tag) ≡ none → (iv ≡ 12) × (tag ≡ 16)

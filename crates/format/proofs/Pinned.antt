@@ -1,15 +1,15 @@
 -- The tests that demand 3 has on both of its sides, each held to its statement. Assumes nothing.
-use mathlib.Core.Path.{_≡_, refl}
+use mathlib.Core.Path.{_≡_, refl, ap}
 use mathlib.Core.Bool.{Bool, true, false, not, _&&_, _||_}
 use mathlib.Core.Logic.{_⊎_, inl, inr, ⊎-elim}
 use mathlib.Core.List.{List, [], _∷_, _++_, append-assoc}
-use Prim.Native.Nat.{ℕ, zero, suc, _+_, _≤_, _<_}
+use Prim.Native.Nat.{ℕ, zero, suc, _+_, _*_, _/_, _%_, _≤_, _<_}
 use native.Mathlib.Omega.{arith}
 use lib.Dec.{leb, eqb}
 use lib.ListN.{length, drop, length-drop}
 use Rattle.format.specs.Shared.{one-or-two, frame-fits}
 use Rattle.format.specs.Read.{at}
-use Rattle.format.specs.Serialize.{read, read-at, images, same-bytes}
+use Rattle.format.specs.Serialize.{read, read-at, write-uint16, write-uint32, images}
 use Rattle.format.specs.Fields.{Pair, EncryptedDataKey}
 use Rattle.format.specs.Context.{write-aad-pair, write-aad-pairs}
 use Rattle.format.specs.Keys.{write-encrypted-data-key, write-encrypted-data-keys}
@@ -89,11 +89,26 @@ module _ (n : ℕ) (m : List ℕ) (s : ℕ) where
       go true e = fits near (is-leb _ _ e)
       go false e = let h : length m < s + n = is-nleb _ _ e in short (simp length-drop (omega arith)) h
 
+uint16 : (x : ℕ) → x < 65536 → write-uint16 x ≡ ((x / 256) ∷ (x % 256) ∷ [])
+unfolding write-uint16
+uint16 x h = let e : x / 256 % 256 ≡ x / 256 = omega arith in ap (λ y. y ∷ (x % 256) ∷ []) e
+
+uint32 : (x : ℕ) → x < 4294967296 → write-uint32 x ≡ ((x / 16777216) ∷ (x / 65536 % 256) ∷ (x / 256 % 256) ∷ (x % 256) ∷ [])
+unfolding write-uint32
+uint32 x h =
+    let e₁ : x / 256 / 256 / 256 % 256 ≡ x / 16777216 = omega arith in
+    let e₂ : x / 256 / 256 % 256 ≡ x / 65536 % 256 = omega arith in
+    rw (e₁, e₂) refl
+
 pub pinned : Pinned
 pinned =
     record {
       some-bytes = some-bytes;
       within-the-message = within-the-message;
+      two-bytes = λ a b. omega arith;
+      four-bytes = λ a b c d. omega arith;
+      uint16 = uint16;
+      uint32 = uint32;
       utf8 = λ bytes. record { then-holds = valid-octets bytes; holds-then = octets-valid };
       characters = λ bytes. record { then-holds = λ e. to-characters (valid-octets bytes e); holds-then = λ c. octets-valid (to-octets c) };
       equal = λ a b. record { then-holds = same-equal a b; holds-then = λ e. rw (← e) (equal-same a) };

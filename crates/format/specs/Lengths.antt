@@ -30,10 +30,10 @@ pub record TakesTooMuch (acc : List PairAt) (l : List ℕ) (s : ℕ) : Type 0 wh
   pub new : Has (pair .key .bytes) acc → ⊥
   pub too-much : 65534 ≤ linear-length (map pair-of (acc ++ (pair ∷ [])))
 
--- by version: the lengths of ID, stored IV length and suite data
-pub data Sized : (version id iv suiteData : ℕ) → Type 0 where
-  version-1 : Sized 1 16 12 0
-  version-2 : Sized 2 32 0 32
+-- by version: the type, the ID's length, the stored IV length and the suite data's length
+pub data Sized : (version type id iv suiteData : ℕ) → Type 0 where
+  version-1 : Sized 1 0x80 16 12 0
+  version-2 : Sized 2 0 32 0 32
 
 -- and what stands before the context section: the ID's length, and where it ends
 pub data OpeningSized (s : ℕ) : (version id tail : ℕ) → Type 0 where
@@ -54,8 +54,8 @@ pub record Lengths : Type 0 where
       → OpeningSized s (o .version) (length (o .messageId .bytes)) t
   pub body-read : (which : Which) (mode : Mode) (max : Max) (pairRoom keyRoom : ℕ) (m : List ℕ) (s : ℕ) → Bytes m → (b : HeaderBody) (t : ℕ)
       → operation (read-header-body which mode max pairRoom keyRoom) m s ≡ accepted b t
-      → Sized (b .version) (length (b .messageId .bytes)) (b .headerIvLength) (length (b .suiteData .bytes))
-  pub body-written : (f : Fields) → Accepts f → Sized (f .version) (length (f .messageId)) (f .headerIvLength) (length (f .suiteData))
+      → Sized (b .version) (b .messageType) (length (b .messageId .bytes)) (b .headerIvLength) (length (b .suiteData .bytes))
+  pub body-written : (f : Fields) → Accepts f → Sized (f .version) (f .messageType) (length (f .messageId)) (f .headerIvLength) (length (f .suiteData))
   -- the authentication record: 12 and 16, of which version 2 stores the tag alone
   pub auth-read : (suite : ℕ) (m : List ℕ) (s : ℕ) → Bytes m → (a : HeaderAuth) (t : ℕ) → operation (read-header-auth-tag suite) m s ≡ accepted a t
       → (length (a .headerIv) ≡ 12) × (length (a .headerAuthTag) ≡ 16) × (t ≡ s + by (suite-version suite) 28 16)

@@ -4,11 +4,11 @@ use mathlib.Core.Path.{_≡_}
 use mathlib.Core.Bool.{Bool, true, false, cond}
 use mathlib.Core.Logic.{_⊎_}
 use mathlib.Core.List.{List, [], _∷_, _++_, map, List·Memᴰ}
-use Prim.Native.Nat.{ℕ, _≤_, _<_}
+use Prim.Native.Nat.{ℕ, _+_, _*_, _/_, _%_, _≤_, _<_}
 use lib.Dec.{leb}
 use lib.ListN.{length}
 use Rattle.format.specs.Read.{at}
-use Rattle.format.specs.Serialize.{read, read-at, same-bytes}
+use Rattle.format.specs.Serialize.{read, read-at, number, write-uint16, write-uint32, same-bytes}
 use Rattle.format.specs.Utf8.{Range, has, rows, valid-utf8-seq}
 use Rattle.format.specs.Shared.{one-or-two, SuiteRow, row, suites, suite-version, known, frame-fits}
 use Rattle.format.specs.Fields.{Pair, PairAt, pair-of, EncryptedDataKey}
@@ -45,6 +45,11 @@ pub record Pinned : Type 0 where
   -- n bytes at a place, where there is a byte to read or the place lies within the message
   pub some-bytes : (n : ℕ) (m : List ℕ) (s : ℕ) → 0 < n → at (read n) m s ≡ read-at n m s
   pub within-the-message : (n : ℕ) (m : List ℕ) (s : ℕ) → s ≤ length m → at (read n) m s ≡ read-at n m s
+  -- numbers stand with their most significant byte first
+  pub two-bytes : (a b : ℕ) → number (a ∷ b ∷ []) ≡ 256 * a + b
+  pub four-bytes : (a b c d : ℕ) → number (a ∷ b ∷ c ∷ d ∷ []) ≡ 16777216 * a + 65536 * b + 256 * c + d
+  pub uint16 : (x : ℕ) → x < 65536 → write-uint16 x ≡ ((x / 256) ∷ (x % 256) ∷ [])
+  pub uint32 : (x : ℕ) → x < 4294967296 → write-uint32 x ≡ ((x / 16777216) ∷ (x / 65536 % 256) ∷ (x / 256 % 256) ∷ (x % 256) ∷ [])
   -- the grammar of RFC 3629, and the character numbers that it stands for
   pub utf8 : (bytes : List ℕ) → Decides (valid-utf8-seq bytes) (Octets bytes)
   pub characters : (bytes : List ℕ) → Decides (valid-utf8-seq bytes) (Characters bytes)
