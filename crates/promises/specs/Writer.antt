@@ -20,12 +20,12 @@ use Rattle.checks.specs.Answers.{Writes}
 use Rattle.checks.specs.declared.WriteAnswer.{WriteAnswer}
 use Rattle.checks.specs.declared.WriteAnswer.the-variants.{Written, Refused}
 use Rattle.body_write.specs.Lent.{body-to-write}
-use Rattle.body_write.specs.declared.Numbers.{Numbers}
+use Rattle.fields.specs.declared.BodyNumbers.{BodyNumbers}
 use Rattle.promises.specs.Reader.{Call, reading, Meets, Accepts}
 
 -- a call: what is lent, the output before and after it, and its answer
 pub record Write : Type 0 where
-  pub numbers : Numbers
+  pub numbers : BodyNumbers
   pub messageId : List ℕ
   pub suiteData : List ℕ
   pub text : List ℕ
