@@ -13,6 +13,7 @@ use Rattle.comparing.specs.Order.{compare-bytes}
 use Rattle.wire.specs.declared.Refusal.{Refusal}
 use Rattle.comparing.specs.declared.Order.{Order}
 use Rattle.index.specs.Index.{Sought, Shifted}
+use Rattle.index.specs.declared.Halves.{Halves}
 use Rattle.index.specs.declared.Spot.{Spot}
 use Rattle.index.specs.declared.Spot.the-variants.{Found, At}
 use Rattle.index.proofs.Bracket.{Bracket, mid-room, mid-good}
@@ -40,12 +41,12 @@ module _ (text table : List ℕ) (x w : ℕ) (is : w ≡ x) where
     probe-is at₂ s₂ l₂ es₂ el₂ o e = e ∙ rw (es, el, es₂, el₂, is)
 
 -- the place that is looked at next
-module _ (text table : List ℕ) (n : ℕ) (s k : List ℕ) (lo hi mid : ℕ) (b : Bracket (key-of text table) n s k lo hi mid) (t : lo < hi) (ix : Indexed text table n s) where
-  pub probe-there : Within text table (4 * getD s mid 0)
-  probe-there = mid-good (key-of text table) (KeyThere text table) _ n s k lo hi mid b (ix .index) t .there
+module _ (text table : List ℕ) (n : ℕ) (s k : List ℕ) (h : Halves) (b : Bracket (key-of text table) n s k h) (t : h .lo < h .hi) (ix : Indexed text table n s) where
+  pub probe-there : Within text table (4 * getD s (h .mid) 0)
+  probe-there = mid-good (key-of text table) (KeyThere text table) _ n s k h b (ix .index) t .there
 
-  pub probe-room : n ≤ length s → mid < length s
-  probe-room h = mid-room (key-of text table) (KeyThere text table) _ n s k lo hi mid b (ix .index) t h
+  pub probe-room : n ≤ length s → h .mid < length s
+  probe-room g = mid-room (key-of text table) (KeyThere text table) _ n s k h b (ix .index) t g
 
 pub indexed-none : (text table s : List ℕ) → Indexed text table 0 s
 unfolding items

@@ -1,9 +1,9 @@
 // Refusal 12, by an ordered index of the keys of the pairs before: numbers of pairs, in the order of their keys.
 use super::tables::number;
 use comparing::Order;
+use index::Halves;
 use index::Spot;
 use index::insert;
-use index::last;
 ghost use mathlib.Core.Path.{_≡_};
 ghost use Prim.Native.Nat.{_*_, _≤_, _<_};
 ghost use lib.ListN.{length, getD};
@@ -31,23 +31,16 @@ fn find(text: &[u8], table: &[u32], n: usize, keys: &[u16], key: usize) -> Spot
     requires { ⌜ (Indexed (now text) (now table) n (now keys)) × (n ≤ length (now keys)) × (Within (now text) (now table) key) ⌝ }
     ensures { λ r. ⌜ Sought (key-of (now (text .entry)) (now (table .entry))) (items (pair-in (now (text .entry)) (now (table .entry))) 4 n 0) n (now (keys .entry)) (part-in (now (text .entry)) (now (table .entry)) key) r ⌝ }
 {
-    let mut lo = 0;
-    let mut hi = n;
-    let mut mid = last(n);
-    while lo < hi {
+    let mut h = Halves::of(n);
+    while h.lo < h.hi {
+        let mid = h.mid;
         match probe(text, table, keys, mid, key) {
-            Order::Less => {
-                lo = mid + 1;
-                mid = lo + (hi - lo) / 2;
-            }
+            Order::Less => h = h.above(),
             Order::Equal => return Spot::Found,
-            Order::Greater => {
-                hi = mid;
-                mid = lo + (hi - lo) / 2;
-            }
+            Order::Greater => h = h.below(),
         }
     }
-    Spot::At(lo)
+    Spot::At(h.lo)
 }
 
 // Whether the i-th pair, at `at`, has a key that no pair before it has. If so, it goes into the index.

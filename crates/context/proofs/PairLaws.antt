@@ -27,10 +27,12 @@ use Rattle.entries.specs.declared.Next.{Next}
 use Rattle.entries.specs.declared.Next.the-variants as next
 use Rattle.entries.proofs.Answers.{next-got, next-no}
 use Rattle.entries.proofs.Items.{reach}
-use Rattle.entries.proofs.Walk.{Walk, walk-start, walk-end, walk-stop, walk-more}
-use Rattle.pair_index.specs.Index.{Index, Ready, Added}
+use Rattle.entries.proofs.Walk.{walk-start, walk-end, walk-stop, walk-more}
+use Rattle.index.specs.Index.{Copied}
+use Rattle.index.proofs.Grown.{index-copied}
+use Rattle.pair_index.specs.Index.{key-of, KeyInside, first-pairs, Ready, Added}
 use Rattle.pair_index.proofs.SeenLaws.{index-start}
-use Rattle.context.specs.Stepping.{Onward, Grown, After, Stepped}
+use Rattle.context.specs.Stepping.{Onward, Grown, After, Stepped, Reached, UpTo, ReadUpTo}
 use Rattle.context.proofs.Known.{pair-tidy, pair-known, pair-kind, forward, here-size}
 
 -- a key and a value
@@ -151,24 +153,24 @@ unfolding items-end
 four-each m zero first = omega arith
 four-each m (suc n) first = omega (arith, four-each m n (pair-end m first))
 
--- the loop over the pairs
-pub record Pass (m : List ℕ) (first n : ℕ) (keys₀ keys : List ℕ) (i s : ℕ) : Type 0 where
-  pub walk : Walk read-next-aad-pair pair-here pair-end m first n i s
-  pub index : Index m first i keys
-  pub near : s < first + 65534
+-- the loop over the pairs: i of n are read, on the way to k
+pub record Pass (m : List ℕ) (first n k : ℕ) (keys₀ keys : List ℕ) (i s : ℕ) : Type 0 where
+  pub reached : Reached m first n i s keys
+  pub some : i ≤ k
+  pub most : k ≤ n
   pub long : length keys ≡ length keys₀
-  pub room : length keys₀ < 16384 → n ≤ length keys₀
+  pub room : length keys₀ < 16384 → k ≤ length keys₀
 
-pub pass-start : (m : List ℕ) (first n : ℕ) (keys : List ℕ) → first ≤ length m → (length keys < 16384 → n ≤ length keys) → Pass m first n keys keys 0 first
-pass-start m first n keys h room = record { walk = walk-start m first n h; index = index-start m first keys; near = omega arith; long = refl; room = room }
+pub pass-start : (m : List ℕ) (first n k : ℕ) (keys : List ℕ) (i s : ℕ) → Reached m first n i s keys → i ≤ k → k ≤ n → (length keys < 16384 → k ≤ length keys) → Pass m first n k keys keys i s
+pass-start m first n k keys i s there h g room = record { reached = there; some = h; most = g; long = refl; room = room }
 
-module _ (m : List ℕ) (first n : ℕ) (keys₀ keys : List ℕ) (i s : ℕ) (inv : Pass m first n keys₀ keys i s) where
-  pub pass-end : n ≤ i → next.At s ≡ next-of (at (repeat n read-next-aad-pair []) m first)
-  pass-end h = walk-end m first n i s (inv .walk) pair-kind h
+module _ (m : List ℕ) (first n k : ℕ) (keys₀ keys : List ℕ) (i s : ℕ) (inv : Pass m first n k keys₀ keys i s) where
+  pub pass-end : k ≤ i → ReadUpTo m first n k keys (next.At s)
+  pass-end h = let e : i ≡ k = omega (arith, inv .some) in record { up-to = subst (λ (j : ℕ). Reached m first n j s keys) e (inv .reached) }
 
-  module _ (h : i < n) where
+  module _ (h : i < k) where
     few : i < 16384
-    few = let y = inv .walk in omega (arith, four-each m i first, inv .near)
+    few = let y = inv .reached .walk in omega (arith, four-each m i first, inv .reached .near)
 
     roomy : i < length keys
     roomy = go (ltb (length keys₀) 16384) refl
@@ -178,19 +180,68 @@ module _ (m : List ℕ) (first n : ℕ) (keys₀ keys : List ℕ) (i s : ℕ) (i
         go false e = omega (arith, few, inv .long, ltb-false (length keys₀) 16384 e)
 
     pub pass-on : Onward m first i s keys
-    pass-on = record { near = inv .near; here = inv .walk .reached; inside = inv .walk .inside; room = roomy; index = inv .index }
+    pass-on =
+        let y = inv .reached in
+        record { near = y .near; here = y .walk .reached; inside = y .walk .inside; room = roomy; index = y .index }
+
+    below : i < n
+    below = omega (arith, inv .most)
 
     module _ (a : Next) (keys′ : List ℕ) (step : Stepped m first i s keys′ a) where
-      pub pass-stop : (q : Refusal) → a ≡ next.Not q → next.Not q ≡ next-of (at (repeat n read-next-aad-pair []) m first)
-      pass-stop q e = walk-stop m first n i s (inv .walk) pair-kind h a (step .answer) q e
+      pub pass-stop : (q : Refusal) → a ≡ next.Not q → ReadUpTo m first n k keys′ a
+      pass-stop q e =
+          record {
+            up-to = subst (UpTo m first n k keys′) (sym e) (sym e ∙ walk-stop m first n i s (inv .reached .walk) pair-kind below a (step .answer) q e);
+          }
 
-      pub pass-more : (t : ℕ) → a ≡ next.At t → length keys′ ≡ length keys → Pass m first n keys₀ keys′ (i + 1) t
+      pub pass-more : (t : ℕ) → a ≡ next.At t → length keys′ ≡ length keys → Pass m first n k keys₀ keys′ (i + 1) t
       pass-more t e l =
           let grown : Grown m first i keys′ t = subst (After m first i keys′) e (step .after) in
           record {
-            walk = walk-more m first n i s (inv .walk) pair-kind h a (step .answer) t e;
-            index = rw add-one (grown .index);
-            near = grown .near;
+            reached = record { walk = walk-more m first n i s (inv .reached .walk) pair-kind below a (step .answer) t e; near = grown .near; room = omega (arith, roomy); index = rw add-one (grown .index) };
+            some = omega arith;
+            most = inv .most;
             long = l ∙ inv .long;
             room = inv .room;
           }
+
+-- the reading as a whole, with one index after another
+pub reached-start : (m : List ℕ) (first n : ℕ) (keys : List ℕ) → first ≤ length m → Reached m first n 0 first keys
+reached-start m first n keys h = record { walk = walk-start m first n h; near = omega arith; room = omega arith; index = index-start m first keys }
+
+module _ (m : List ℕ) (first n i s : ℕ) (keys : List ℕ) (there : Reached m first n i s keys) where
+  pub reached-some : i ≤ n
+  reached-some = there .walk .some
+
+  pub reached-room : i ≤ length keys
+  reached-room = there .room
+
+  pub reached-copied : (larger : List ℕ) → Copied keys larger → Reached m first n i s larger
+  reached-copied larger c =
+      record {
+        walk = there .walk;
+        near = there .near;
+        room = omega (arith, there .room, c .longer);
+        index = index-copied (key-of m first) (KeyInside m first) (first-pairs m first i) i keys (there .index) (there .room) larger c;
+      }
+
+module _ (m : List ℕ) (first n i : ℕ) (keys : List ℕ) (r : Next) (h : ReadUpTo m first n i keys r) where
+  pub up-to-stop : (q : Refusal) → r ≡ next.Not q → r ≡ next-of (at (repeat n read-next-aad-pair []) m first)
+  up-to-stop q e = e ∙ subst (UpTo m first n i keys) e (h .up-to)
+
+  module _ (s : ℕ) (e : r ≡ next.At s) where
+    pub up-to-reached : Reached m first n i s keys
+    up-to-reached = subst (UpTo m first n i keys) e (h .up-to)
+
+    pub up-to-grown : (larger : List ℕ) → Copied keys larger → Reached m first n i s larger
+    up-to-grown larger c = reached-copied m first n i s keys up-to-reached larger c
+
+    pub up-to-end : i ≡ n → next.At s ≡ next-of (at (repeat n read-next-aad-pair []) m first)
+    up-to-end f = walk-end m first n i s (up-to-reached .walk) pair-kind (omega arith)
+
+pub up-to-all : (m : List ℕ) (first n : ℕ) (keys : List ℕ) (r : Next) → ReadUpTo m first n n keys r → r ≡ next-of (at (repeat n read-next-aad-pair []) m first)
+up-to-all m first n keys r h = go r refl
+  where
+    go : (x : Next) → r ≡ x → r ≡ next-of (at (repeat n read-next-aad-pair []) m first)
+    go (next.At s) e = e ∙ up-to-end m first n n keys r h s e refl
+    go (next.Not q) e = up-to-stop m first n n keys r h q e

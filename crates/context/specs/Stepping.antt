@@ -1,11 +1,12 @@
 -- What the steps of reading pairs with the index of their keys say to each other. Assumes nothing.
 use mathlib.Core.Path.{_≡_}
-use mathlib.Core.List.{List}
+use mathlib.Core.List.{List, []}
 use Prim.Native.Nat.{ℕ, suc, _+_, _≤_, _<_}
 use lib.ListN.{length}
-use Rattle.format.specs.Read.{at}
+use Rattle.format.specs.Read.{at, repeat}
 use Rattle.format.specs.Context.{read-next-aad-pair}
-use Rattle.entries.specs.Places.{pairs-here, pairs-end}
+use Rattle.entries.specs.Places.{pair-here, pair-end, pairs-here, pairs-end}
+use Rattle.entries.specs.Walk.{Walk}
 use Rattle.entries.specs.Codes.{next-of}
 use Rattle.entries.specs.declared.Next.{Next}
 use Rattle.entries.specs.declared.Next.the-variants as next
@@ -32,3 +33,18 @@ After m first n keys (next.Not r) = Unit {0}
 pub record Stepped (m : List ℕ) (first n s : ℕ) (keys : List ℕ) (r : Next) : Type 0 where
   pub answer : r ≡ next-of (at (read-next-aad-pair (pairs-here m n first)) m s)
   pub after : After m first n keys r
+
+-- i of n pairs were read, which end at s, and the index has room for their keys and has them
+pub record Reached (m : List ℕ) (first n i s : ℕ) (keys : List ℕ) : Type 0 where
+  pub walk : Walk read-next-aad-pair pair-here pair-end m first n i s
+  pub near : s < first + 65534
+  pub room : i ≤ length keys
+  pub index : Index m first i keys
+
+abbrev pub UpTo : List ℕ → ℕ → ℕ → ℕ → List ℕ → Next → Type 0
+UpTo m first n i keys (next.At t) = Reached m first n i t keys
+UpTo m first n i keys (next.Not r) = next.Not r ≡ next-of (at (repeat n read-next-aad-pair []) m first)
+
+-- r is the place where i of n pairs end, or it is the whole reading's refusal
+pub record ReadUpTo (m : List ℕ) (first n i : ℕ) (keys : List ℕ) (r : Next) : Type 0 where
+  pub up-to : UpTo m first n i keys r

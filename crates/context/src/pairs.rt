@@ -1,5 +1,6 @@
 // The pairs of a context, one behind the other.
 use entries::Next;
+use index::least;
 use wire::Span;
 use wire::reading;
 use wire::refusals;
@@ -11,7 +12,7 @@ ghost use lib.ListN.{length};
 ghost use Rattle.format.specs.Read.{at, repeat};
 ghost use Rattle.format.specs.Context.{read-aad-pair, read-next-aad-pair};
 ghost use Rattle.entries.specs.Codes.{next-of};
-ghost use Rattle.context.specs.Stepping.{Onward, Stepped};
+ghost use Rattle.context.specs.Stepping.{Onward, Stepped, Reached, ReadUpTo};
 
 // ReadAADPair: a key and a value, both UTF-8.
 fn read_pair(m: &[u8], s: u64) -> Next
@@ -57,46 +58,70 @@ fn next_pair(m: &[u8], first: u64, done: usize, s: u64, keys: &mut [u16]) -> Nex
     Next::Not(refuse(refusals::PAIRS_TOO_LONG))
 }
 
-// The `count` pairs from `first` on, with an index that has room for `count` keys, or for as many as 65,533 bytes hold.
-fn pairs_by_index(m: &[u8], first: u64, count: usize, keys: &mut [u16]) -> Next
-    requires { ⌜ (first ≤ length (now m)) × (length (now m) < 4294967296) × (length (now keys) < 16384 → count ≤ length (now keys)) ⌝ }
-    ensures { λ r. ⌜ r ≡ next-of (at (repeat count read-next-aad-pair []) (now (m .entry)) first) ⌝ }
+// Goes on from the first `from` of `count` pairs, which end at `start`, to the first `to`.
+fn pairs_up_to(
+    m: &[u8],
+    first: u64,
+    count: usize,
+    from: usize,
+    to: usize,
+    start: u64,
+    keys: &mut [u16],
+) -> Next
+    requires { ⌜ Reached (now m) first count from start (now keys) × (from ≤ to) × (to ≤ count) × (length (now m) < 4294967296) × (length (now keys) < 16384 → to ≤ length (now keys)) ⌝ }
+    ensures { λ r. ⌜ ReadUpTo (now (m .entry)) first count to (now (keys .exit)) r ⌝ }
 {
-    let mut i: usize = 0;
-    let mut s = first;
-    while i < count {
-        match next_pair(m, first, i, s, keys) {
-            Next::Not(r) => return Next::Not(r),
-            Next::At(t) => s = t,
-        }
+    let mut i = from;
+    let mut s = start;
+    while i < to {
+        let n = next_pair(m, first, i, s, keys);
+        let Next::At(t) = n else {
+            return n;
+        };
+        s = t;
         i += 1;
     }
     Next::At(s)
 }
 
-// An array is written whole before it is used, so its length goes by the count.
-fn pairs_32(m: &[u8], first: u64, count: usize) -> Next
-    requires { ⌜ (first ≤ length (now m)) × (length (now m) < 4294967296) × (count ≤ 32) ⌝ }
+// Goes on to the last pair, with as large an index as any pairs need: 65,533 bytes hold at most 16,383 of them.
+fn pairs_with_largest(
+    m: &[u8],
+    first: u64,
+    count: usize,
+    from: usize,
+    start: u64,
+    keys: &[u16],
+) -> Next
+    requires { ⌜ Reached (now m) first count from start (now keys) × (length (now keys) ≤ 16384) × (length (now m) < 4294967296) ⌝ }
     ensures { λ r. ⌜ r ≡ next-of (at (repeat count read-next-aad-pair []) (now (m .entry)) first) ⌝ }
 {
-    let mut keys = [0u16; 32];
-    pairs_by_index(m, first, count, &mut keys[..])
+    let mut largest = [0u16; 16384];
+    index::copy(keys, &mut largest[..]);
+    pairs_up_to(m, first, count, from, count, start, &mut largest[..])
 }
 
-fn pairs_512(m: &[u8], first: u64, count: usize) -> Next
-    requires { ⌜ (first ≤ length (now m)) × (length (now m) < 4294967296) × (count ≤ 512) ⌝ }
+// Goes on to the last pair. Where the index is full, a larger one takes its place. An array is written whole before it is used, and takes
+// its room on the stack as soon as its function is called: so each size waits for the pairs that fill the one before it. That this
+// function calls itself is what keeps the compiler from joining it, and the largest array, with its caller's frame.
+fn pairs_from(m: &[u8], first: u64, count: usize, from: usize, start: u64, keys: &mut [u16]) -> Next
+    requires { ⌜ Reached (now m) first count from start (now keys) × (length (now keys) ≤ 512) × (length (now m) < 4294967296) ⌝ }
     ensures { λ r. ⌜ r ≡ next-of (at (repeat count read-next-aad-pair []) (now (m .entry)) first) ⌝ }
 {
-    let mut keys = [0u16; 512];
-    pairs_by_index(m, first, count, &mut keys[..])
-}
-
-fn pairs_16384(m: &[u8], first: u64, count: usize) -> Next
-    requires { ⌜ (first ≤ length (now m)) × (length (now m) < 4294967296) ⌝ }
-    ensures { λ r. ⌜ r ≡ next-of (at (repeat count read-next-aad-pair []) (now (m .entry)) first) ⌝ }
-{
-    let mut keys = [0u16; 16384];
-    pairs_by_index(m, first, count, &mut keys[..])
+    let to = least(count, keys.len());
+    let n = pairs_up_to(m, first, count, from, to, start, keys);
+    let Next::At(s) = n else {
+        return n;
+    };
+    if to == count {
+        return Next::At(s);
+    }
+    if keys.len() < 512 {
+        let mut larger = [0u16; 512];
+        index::copy(keys, &mut larger[..]);
+        return pairs_from(m, first, count, to, s, &mut larger[..]);
+    }
+    pairs_with_largest(m, first, count, to, s, keys)
 }
 
 // ReadAADPairs: where the `count` pairs from `first` on end.
@@ -104,12 +129,6 @@ pub fn read_pairs(m: &[u8], first: u64, count: u64) -> Next
     requires { ⌜ (first ≤ length (now m)) × (length (now m) < 4294967296) ⌝ }
     ensures { λ r. ⌜ r ≡ next-of (at (repeat count read-next-aad-pair []) (now (m .entry)) first) ⌝ }
 {
-    let n = count as usize;
-    if n <= 32 {
-        return pairs_32(m, first, n);
-    }
-    if n <= 512 {
-        return pairs_512(m, first, n);
-    }
-    pairs_16384(m, first, n)
+    let mut keys = [0u16; 32];
+    pairs_from(m, first, count as usize, 0, first, &mut keys[..])
 }

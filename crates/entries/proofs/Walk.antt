@@ -12,6 +12,7 @@ use Rattle.steps.proofs.Steps.{un-return, un-repeat, all-read, one-more, one-st
 use Rattle.wire.specs.declared.Refusal.{Refusal}
 use Rattle.entries.specs.Places.{items-here, items-end}
 use Rattle.entries.specs.Codes.{next-of}
+use Rattle.entries.specs.Walk.{Walk}
 use Rattle.entries.specs.declared.Next.{Next}
 use Rattle.entries.specs.declared.Next.the-variants as next
 use Rattle.entries.proofs.Items.{one-less, here-length, here-snoc, end-snoc}
@@ -56,13 +57,6 @@ module _ {A : Type 0} {step : List A → Reader A} {here : List ℕ → ℕ → 
   pub all-length : (n s : ℕ) → s ≤ length m → (out : List A) (t : ℕ) → at (repeat n step []) m s ≡ accepted out t → length out ≡ n
   all-length n s h out t e = ap length (run-known n [] s h out t e .are) ∙ here-length here end m n s
 
--- the loop's invariant
-pub record Walk {A : Type 0} (step : List A → Reader A) (here : List ℕ → ℕ → A) (end : List ℕ → ℕ → ℕ) (m : List ℕ) (first n i s : ℕ) : Type 0 where
-  pub some : i ≤ n
-  pub reached : s ≡ items-end end m i first
-  pub inside : s ≤ length m
-  pub left : at (repeat n step []) m first ≡ at (repeat (n - i) step (items-here here end m i first)) m s
-
 module _ {A : Type 0} {step : List A → Reader A} {here : List ℕ → ℕ → A} {end : List ℕ → ℕ → ℕ} where
   pub walk-start : (m : List ℕ) (first n : ℕ) → first ≤ length m → Walk step here end m first n 0 first
   unfolding items-here items-end
@@ -77,9 +71,9 @@ module _ {A : Type 0} {step : List A → Reader A} {here : List ℕ → ℕ → 
       walk-end h = let e : n - i ≡ 0 = omega arith in rw (w .left, e, all-read step (kind .tidy) m (items-here here end m i first) s)
 
       module _ (h : i < n) (a : Next) (is : a ≡ next-of (at (step (items-here here end m i first)) m s)) where
-        pub walk-stop : (q : Refusal) → a ≡ next.Not q → next.Not q ≡ next-of (at (repeat n step []) m first)
+        pub walk-stop : (q : Refusal) → a ≡ next.Not q → a ≡ next-of (at (repeat n step []) m first)
         walk-stop q b =
-            rw (w .left, one-less n i h, one-stops step (kind .tidy) m (n - (i + 1)) (items-here here end m i first) s _ _ (next-no (at (step (items-here here end m i first)) m s) a is q b))
+            rw (b, w .left, one-less n i h, one-stops step (kind .tidy) m (n - (i + 1)) (items-here here end m i first) s _ _ (next-no (at (step (items-here here end m i first)) m s) a is q b))
 
         pub walk-more : (t : ℕ) → a ≡ next.At t → Walk step here end m first n (i + 1) t
         walk-more t b =

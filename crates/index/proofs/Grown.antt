@@ -12,7 +12,7 @@ use Rattle.comparing.specs.Order.{compare-bytes, flip}
 use Rattle.comparing.specs.declared.Order.{Order}
 use Rattle.comparing.specs.declared.Order.the-variants.{Less, Equal, Greater}
 use Rattle.comparing.proofs.Ordered.{Way, under, same, over, way, compare-flip, same-refl, less-not-same, greater-not-same}
-use Rattle.index.specs.Index.{Index, Between, Sought, Finds, Shifted}
+use Rattle.index.specs.Index.{Index, Between, Sought, Finds, Shifted, Copied}
 use Rattle.index.specs.declared.Spot.{Spot}
 use Rattle.index.specs.declared.Spot.the-variants.{Found, At}
 
@@ -73,6 +73,19 @@ module _ (key : ℕ → List ℕ) (Good : ℕ → Type 0) where
       }
 
   module _ (done : List Pair) (n : ℕ) (s : List ℕ) (ix : Index key Good done n s) where
+    -- in a larger array it is the same index
+    pub index-copied : n ≤ length s → (t : List ℕ) → Copied s t → Index key Good done n t
+    index-copied h t c =
+        record {
+          ascends = λ r q a b. rw (at r (omega arith), at q b) (ix .ascends r q a b);
+          good = λ r a. subst Good (sym (at r a)) (ix .good r a);
+          only = λ r a. rw (at r a) (ix .only r a);
+          all = λ k a. ix .all k (λ r b. subst (λ (x : ℕ). same-bytes k (key x) ≡ false) (at r b) (a r b));
+        }
+      where
+        at : (r : ℕ) → r < n → getD t r 0 ≡ getD s r 0
+        at r a = c .same r (omega arith)
+
     -- a key between those of the index was not seen
     pub between-unseen : (k : List ℕ) (p : ℕ) → Between key n s k p → seen k done ≡ false
     between-unseen k p b = ix .all k (λ r h. go r h (way r p))

@@ -1,3 +1,4 @@
 pub mod Moved
 pub mod Bracket
 pub mod Grown
+pub mod Smaller

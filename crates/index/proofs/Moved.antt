@@ -1,4 +1,4 @@
--- The loop that moves numbers up, and the store that puts one in. Assumes nothing.
+-- The loop that moves numbers up, the store that puts one in, and the loop that copies. Assumes nothing.
 use Prim.Native.Nat.{ℕ, suc, _+_, _-_, _<_, _≤_}
 use native.Mathlib.Omega.{arith}
 use mathlib.Core.Path.{_≡_, refl, sym, ap, _∙_}
@@ -6,7 +6,7 @@ use mathlib.Core.List.{List}
 use lib.ListN.{length, getD, set, length-set}
 use lib.Seq.{getD-set-same, getD-set-other}
 use Rattle.comparing.proofs.Ordered.{Way, under, same, over, way}
-use Rattle.index.specs.Index.{Shifted}
+use Rattle.index.specs.Index.{Copied, Shifted}
 
 -- what stood from j to n has moved up
 pub record Moved (s t : List ℕ) (p n j : ℕ) : Type 0 where
@@ -47,3 +47,24 @@ module _ (s t : List ℕ) (p n j : ℕ) (inv : Moved s t p n j) where
         here = getD-set-same t p x 0 (omega arith);
         above = λ r a b. getD-set-other t p (suc r) x 0 (λ e. omega arith) ∙ inv .moved r (omega arith) b;
       }
+
+-- the first i numbers of s stand in t, which was t₀
+pub record Copying (s t₀ t : List ℕ) (i : ℕ) : Type 0 where
+  pub room : length s ≤ length t
+  pub long : length t ≡ length t₀
+  pub same : (r : ℕ) → r < i → getD t r 0 ≡ getD s r 0
+
+pub copying-start : (s t : List ℕ) → length s ≤ length t → Copying s t t 0
+copying-start s t h = record { room = h; long = refl; same = λ r a. absurd (omega arith) }
+
+module _ (s t₀ t : List ℕ) (i : ℕ) (inv : Copying s t₀ t i) where
+  pub copying-more : i < length s → Copying s t₀ (set t i (getD s i 0)) (i + 1)
+  copying-more h = record { room = simp length-set (inv .room); long = simp length-set (inv .long); same = λ r a. go r a (way r i) }
+    where
+      go : (r : ℕ) → r < i + 1 → Way r i → getD (set t i (getD s i 0)) r 0 ≡ getD s r 0
+      go r a (under w) = getD-set-other t i r (getD s i 0) 0 (λ e. omega arith) ∙ inv .same r w
+      go r a (same w) = rw w (getD-set-same t i (getD s i 0) 0 (omega (arith, inv .room)))
+      go r a (over w) = absurd (omega arith)
+
+  pub copying-end : length s ≤ i → Copied s t
+  copying-end h = record { longer = inv .room; same = λ r a. inv .same r (omega arith) }

@@ -1,15 +1,17 @@
 -- An ordered index of the keys of the pairs so far. Assumes nothing.
-use Prim.Native.Nat.{ℕ, suc, _≤_, _<_}
+use Prim.Native.Nat.{ℕ, suc, _+_, _-_, _/_, _≤_, _<_}
 use mathlib.Core.Path.{_≡_}
-use mathlib.Core.Bool.{true, false}
+use mathlib.Core.Bool.{true, false, cond}
 use mathlib.Core.List.{List}
-use lib.ListN.{getD}
+use lib.Dec.{leb}
+use lib.ListN.{length, getD}
 use Rattle.format.specs.Serialize.{same-bytes}
 use Rattle.format.specs.Fields.{Pair}
 use Rattle.format.specs.Context.{seen}
 use Rattle.comparing.specs.Order.{compare-bytes}
 use Rattle.comparing.specs.declared.Order.{Order}
 use Rattle.comparing.specs.declared.Order.the-variants.{Less, Greater}
+use Rattle.index.specs.declared.Halves.{Halves}
 use Rattle.index.specs.declared.Spot.{Spot}
 use Rattle.index.specs.declared.Spot.the-variants.{Found, At}
 
@@ -36,8 +38,20 @@ Finds key done n s k (At p) = Between key n s k p
 pub record Sought (key : ℕ → List ℕ) (done : List Pair) (n : ℕ) (s k : List ℕ) (r : Spot) : Type 0 where
   pub finds : Finds key done n s k r
 
+-- a search between two places goes on in the middle
+abbrev pub between : ℕ → ℕ → Halves
+between lo hi = record { lo = lo; hi = hi; mid = lo + (hi - lo) / 2 }
+
 -- t is s with x put in at p, below n
 pub record Shifted (s t : List ℕ) (p n x : ℕ) : Type 0 where
   pub below : (r : ℕ) → r < p → getD t r 0 ≡ getD s r 0
   pub here : getD t p 0 ≡ x
   pub above : (r : ℕ) → p ≤ r → r < n → getD t (suc r) 0 ≡ getD s r 0
+
+-- t begins with the numbers of s
+pub record Copied (s t : List ℕ) : Type 0 where
+  pub longer : length s ≤ length t
+  pub same : (r : ℕ) → r < length s → getD t r 0 ≡ getD s r 0
+
+abbrev pub least-of : ℕ → ℕ → ℕ
+least-of a b = cond (leb a b) a b

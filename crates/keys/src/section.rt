@@ -71,10 +71,11 @@ fn read_keys(m: &[u8], first: u64, count: u64) -> Next
     let mut i: u64 = 0;
     let mut s = first;
     while i < count {
-        match read_key(m, s) {
-            Next::Not(r) => return Next::Not(r),
-            Next::At(t) => s = t,
-        }
+        let n = read_key(m, s);
+        let Next::At(t) = n else {
+            return n;
+        };
+        s = t;
         i += 1;
     }
     Next::At(s)

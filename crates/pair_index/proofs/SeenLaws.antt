@@ -17,6 +17,7 @@ use Rattle.entries.specs.Codes.{EntryIs}
 use Rattle.entries.specs.declared.Entry.{Entry}
 use Rattle.entries.proofs.Items.{here-snoc}
 use Rattle.index.specs.Index.{Sought, Shifted}
+use Rattle.index.specs.declared.Halves.{Halves}
 use Rattle.index.specs.declared.Spot.{Spot}
 use Rattle.index.specs.declared.Spot.the-variants.{Found, At}
 use Rattle.index.proofs.Bracket.{Bracket, mid-good}
@@ -33,8 +34,8 @@ module _ (m : List ℕ) (first x w : ℕ) (is : w ≡ x) where
   probe-is e there k o f = f ∙ rw (there .starts, there .size, is)
 
 -- the place that is looked at next
-pub probe-there : (m : List ℕ) (first n : ℕ) (s k : List ℕ) (lo hi mid : ℕ) → Bracket (key-of m first) n s k lo hi mid → Index m first n s → lo < hi → KeyInside m first (getD s mid 0)
-probe-there m first n s k lo hi mid b ix t = mid-good (key-of m first) (KeyInside m first) (first-pairs m first n) n s k lo hi mid b ix t
+pub probe-there : (m : List ℕ) (first n : ℕ) (s k : List ℕ) (h : Halves) → Bracket (key-of m first) n s k h → Index m first n s → h .lo < h .hi → KeyInside m first (getD s (h .mid) 0)
+probe-there m first n s k h b ix t = mid-good (key-of m first) (KeyInside m first) (first-pairs m first n) n s k h b ix t
 
 -- no key yet
 pub index-start : (m : List ℕ) (first : ℕ) (s : List ℕ) → Index m first 0 s

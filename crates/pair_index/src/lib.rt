@@ -1,9 +1,9 @@
 // An ordered index of the keys of pairs, so that a key that was seen before is found by halving. The index holds, in the
 // order of the keys, how far behind the first pair each pair stands.
 use comparing::Order;
+use index::Halves;
 use index::Spot;
 use index::insert;
-use index::last;
 use index::number;
 ghost use mathlib.Core.Path.{_≡_};
 ghost use Prim.Native.Nat.{_+_, _≤_, _<_};
@@ -27,23 +27,16 @@ fn find(m: &[u8], first: u64, n: usize, s: &[u16], key: u64, len: u64) -> Spot
     requires { ⌜ Index (now m) first n (now s) × (n ≤ length (now s)) × (key + len ≤ length (now m)) × (first ≤ length (now m)) × (length (now m) < 4294967296) ⌝ }
     ensures { λ r. ⌜ Sought (key-of (now (m .entry)) first) (first-pairs (now (m .entry)) first n) n (now (s .entry)) (bytes-at (now (m .entry)) key len) r ⌝ }
 {
-    let mut lo = 0;
-    let mut hi = n;
-    let mut mid = last(n);
-    while lo < hi {
+    let mut h = Halves::of(n);
+    while h.lo < h.hi {
+        let mid = h.mid;
         match probe(m, first, s, mid, key, len) {
-            Order::Less => {
-                lo = mid + 1;
-                mid = lo + (hi - lo) / 2;
-            }
+            Order::Less => h = h.above(),
             Order::Equal => return Spot::Found,
-            Order::Greater => {
-                hi = mid;
-                mid = lo + (hi - lo) / 2;
-            }
+            Order::Greater => h = h.below(),
         }
     }
-    Spot::At(lo)
+    Spot::At(h.lo)
 }
 
 // Whether one of the n pairs of the index has the key of the pair behind them, which stands at `at`. If none has, that key

@@ -1,7 +1,8 @@
 use Prim.Native.Nat.{_-_}
 use Rattle.entries.specs.Places.{key-here, key-end}
 use Rattle.keys.specs.Codes.{any-key}
-use Rattle.entries.proofs.Walk.{Walk, walk-start, walk-near, walk-end, walk-stop, walk-more}
+use Rattle.entries.specs.Walk.{Walk}
+use Rattle.entries.proofs.Walk.{walk-start, walk-near, walk-end, walk-stop, walk-more}
 use Rattle.keys.proofs.Known.{key-kind}
 use borrow.Author.Needs.{needs}
 use Rattle.keys.proofs.section.read_keys.Statement.{statement}
