@@ -13,6 +13,7 @@ use Rattle.format.specs.Checks.{Check, first, each}
 use Rattle.format.specs.Lent.{items, here, in-text}
 use Rattle.wire.specs.declared.Refusal.{Refusal}
 use Rattle.checks.specs.Answers.{checked}
+use Rattle.checks.specs.Each.{Each}
 use Rattle.checks.specs.Table.{short, entry-size}
 use Rattle.checks.specs.declared.Checked.{Checked}
 use Rattle.checks.specs.declared.Checked.the-variants.{Passes, Fails}
@@ -78,11 +79,6 @@ module _ (table : List ℕ) (n i at total : ℕ) (e : Summed table n i at total)
   sum-end h = sym (e .same ∙ rw (items-none here 2 n i at h, add-zero))
 
 -- the checks of each item
-pub record Each {A : Type 0} (f : List A → A → List Check) (g : ℕ → A) (k n i at : ℕ) : Type 0 where
-  pub some : i ≤ n
-  pub is : at ≡ k * i
-  pub same : checked (first (each f [] (items g k n 0))) ≡ checked (first (each f (items g k i 0) (items g k (n - i) at)))
-
 pub each-start : {A : Type 0} (f : List A → A → List Check) (g : ℕ → A) (k n : ℕ) → Each f g k n 0 0
 unfolding items
 each-start f g k n = record { some = omega arith; is = sym (mul-zero k); same = rw sub-zero }

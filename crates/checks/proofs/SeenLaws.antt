@@ -1,5 +1,5 @@
 -- Laws of the search for a key in the index. Assumes nothing.
-use Prim.Native.Nat.{ℕ, _+_, _*_, _≤_, _<_}
+use Prim.Native.Nat.{ℕ, _+_, _*_, _/_, _≤_, _<_}
 use native.Mathlib.Nat.{zero-add}
 use native.Mathlib.Numerals.{add-one}
 use native.Mathlib.Omega.{arith}
@@ -8,23 +8,24 @@ use mathlib.Core.Bool.{Bool, true, false}
 use mathlib.Core.List.{List, [], _∷_, _++_}
 use lib.ListN.{length, getD}
 use Rattle.format.specs.Checks.{first, each, pair-checks}
-use Rattle.format.specs.Lent.{items, part-in, pair-in, bytes-at}
+use Rattle.format.specs.Lent.{items, part-in, pair-in, pairs-in, bytes-at}
 use Rattle.comparing.specs.Order.{compare-bytes}
 use Rattle.wire.specs.declared.Refusal.{Refusal}
 use Rattle.comparing.specs.declared.Order.{Order}
-use Rattle.index.specs.Index.{Sought, Shifted}
+use Rattle.index.specs.Index.{Sought, Shifted, Copied}
 use Rattle.index.specs.declared.Halves.{Halves}
 use Rattle.index.specs.declared.Spot.{Spot}
 use Rattle.index.specs.declared.Spot.the-variants.{Found, At}
 use Rattle.index.proofs.Bracket.{Bracket, mid-room, mid-good}
-use Rattle.index.proofs.Grown.{index-start, index-more, between-unseen, sought-seen, sought-between}
+use Rattle.index.proofs.Grown.{index-start, index-copied, index-more, between-unseen, sought-seen, sought-between}
 use Rattle.checks.specs.Table.{Within}
 use Rattle.checks.specs.Answers.{checked}
-use Rattle.checks.specs.Seen.{key-of, KeyThere, Indexed, IndexedWhere, New, IndexedAfter, PairChecked}
+use Rattle.checks.specs.Each.{Each}
+use Rattle.checks.specs.Seen.{key-of, KeyThere, Indexed, IndexedWhere, New, IndexedAfter, PairChecked, Reached, UpTo, CheckedUpTo}
 use Rattle.checks.specs.declared.Checked.{Checked}
 use Rattle.checks.specs.declared.Checked.the-variants.{Passes, Fails}
 use Rattle.checks.proofs.Items.{items-snoc}
-use Rattle.checks.proofs.Loops.{Each, each-start, each-more, each-bad, each-end}
+use Rattle.checks.proofs.Loops.{each-start, each-more, each-bad, each-end}
 
 -- the place of a key by its number in the index
 module _ (text table : List ℕ) (x w : ℕ) (is : w ≡ x) where
@@ -77,27 +78,83 @@ after-fails text table n s r q e = subst (λ (c : Checked). IndexedAfter c text 
 pub after-passes : (text table : List ℕ) (i at : ℕ) (s : List ℕ) (t : Bool) → New text table i at s t → t ≡ true → Indexed text table (i + 1) s
 after-passes text table i at s t h e = subst (λ (b : Bool). IndexedWhere b text table (i + 1) s) e (h .after)
 
--- the loop over the pairs: the checks of each, and the index of the keys so far
-pub record EachIndexed (text table : List ℕ) (n : ℕ) (s₀ s : List ℕ) (i at : ℕ) : Type 0 where
-  pub checks : Each pair-checks (pair-in text table) 4 n i at
+-- the loop over the pairs: i of them pass, on the way to k
+pub record Pass (text table : List ℕ) (k : ℕ) (s₀ s : List ℕ) (i at : ℕ) : Type 0 where
+  pub checks : Each pair-checks (pair-in text table) 4 (length table / 4) i at
   pub index : Indexed text table i s
+  pub some : i ≤ k
+  pub most : k ≤ length table / 4
+  pub room : k ≤ length s₀
   pub long : length s ≡ length s₀
 
-pub indexed-start : (text table : List ℕ) (n : ℕ) (s : List ℕ) → EachIndexed text table n s s 0 0
-indexed-start text table n s = record { checks = each-start pair-checks (pair-in text table) 4 n; index = indexed-none text table s; long = refl }
+pub pass-start : (text table : List ℕ) (k : ℕ) (s : List ℕ) (i : ℕ) → Reached text table i s → i ≤ k → k ≤ length table / 4 → k ≤ length s → Pass text table k s s i (4 * i)
+pass-start text table k s i there h g r = record { checks = there .checks; index = there .index; some = h; most = g; room = r; long = refl }
 
-module _ (text table : List ℕ) (n : ℕ) (s₀ s : List ℕ) (i at : ℕ) (e : EachIndexed text table n s₀ s i at) where
-  pub indexed-end : n ≤ i → Passes ≡ checked (first (each pair-checks [] (items (pair-in text table) 4 n 0)))
-  indexed-end h = each-end pair-checks (pair-in text table) 4 n i at (e .checks) h
+module _ (text table : List ℕ) (k : ℕ) (s₀ s : List ℕ) (i at : ℕ) (e : Pass text table k s₀ s i at) where
+  pub pass-end : k ≤ i → CheckedUpTo text table k s Passes
+  pass-end h =
+      let z : i ≡ k = omega (arith, e .some) in
+      let there : Reached text table i s = record { checks = subst (λ (x : ℕ). Each pair-checks (pair-in text table) 4 (length table / 4) i x) (e .checks .is) (e .checks); room = omega (arith, e .room, e .long); index = e .index } in
+      record { up-to = subst (λ (j : ℕ). Reached text table j s) z there }
 
-  module _ (h : i < n) (t : List ℕ) (c : Checked) (p : PairChecked text table i at t c) where
-    pub indexed-bad : (r : Refusal) → c ≡ Fails r → Fails r ≡ checked (first (each pair-checks [] (items (pair-in text table) 4 n 0)))
-    indexed-bad r q = each-bad pair-checks (pair-in text table) 4 n i at (e .checks) h c (p .is) r q
+  module _ (h : i < k) where
+    pub pass-below : i < length table / 4
+    pass-below = omega (arith, e .most)
 
-    pub indexed-more : c ≡ Passes → length t ≡ length s → EachIndexed text table n s₀ t (i + 1) (at + 4)
-    indexed-more q l =
-        record {
-          checks = each-more pair-checks (pair-in text table) 4 n i at (e .checks) h c (p .is) q;
-          index = subst (λ (x : Checked). IndexedAfter x text table (i + 1) t) q (p .after);
-          long = l ∙ e .long;
-        }
+    pub pass-room : i < length s
+    pass-room = omega (arith, e .room, e .long)
+
+    module _ (t : List ℕ) (c : Checked) (p : PairChecked text table i at t c) where
+      pub pass-bad : (r : Refusal) → c ≡ Fails r → CheckedUpTo text table k t (Fails r)
+      pass-bad r q = record { up-to = each-bad pair-checks (pair-in text table) 4 (length table / 4) i at (e .checks) pass-below c (p .is) r q }
+
+      pub pass-more : c ≡ Passes → length t ≡ length s → Pass text table k s₀ t (i + 1) (at + 4)
+      pass-more q l =
+          record {
+            checks = each-more pair-checks (pair-in text table) 4 (length table / 4) i at (e .checks) pass-below c (p .is) q;
+            index = subst (λ (x : Checked). IndexedAfter x text table (i + 1) t) q (p .after);
+            some = omega arith;
+            most = e .most;
+            room = e .room;
+            long = l ∙ e .long;
+          }
+
+-- the checks of all pairs, with one index after another
+pub reached-start : (text table s : List ℕ) → Reached text table 0 s
+reached-start text table s = record { checks = each-start pair-checks (pair-in text table) 4 (length table / 4); room = omega arith; index = indexed-none text table s }
+
+module _ (text table : List ℕ) (i : ℕ) (s : List ℕ) (there : Reached text table i s) where
+  pub reached-some : i ≤ length table / 4
+  reached-some = there .checks .some
+
+  pub reached-room : i ≤ length s
+  reached-room = there .room
+
+  pub reached-copied : (t : List ℕ) → Copied s t → Reached text table i t
+  reached-copied t c =
+      record {
+        checks = there .checks;
+        room = omega (arith, there .room, c .longer);
+        index = record { index = index-copied (key-of text table) (KeyThere text table) (items (pair-in text table) 4 i 0) i s (there .index .index) (there .room) t c };
+      }
+
+module _ (text table : List ℕ) (i : ℕ) (s : List ℕ) (r : Checked) (h : CheckedUpTo text table i s r) where
+  pub up-to-fails : (q : Refusal) → r ≡ Fails q → Fails q ≡ checked (first (each pair-checks [] (pairs-in text table)))
+  up-to-fails q e = subst (UpTo text table i s) e (h .up-to)
+
+  module _ (e : r ≡ Passes) where
+    pub up-to-reached : Reached text table i s
+    up-to-reached = subst (UpTo text table i s) e (h .up-to)
+
+    pub up-to-grown : (t : List ℕ) → Copied s t → Reached text table i t
+    up-to-grown t c = reached-copied text table i s up-to-reached t c
+
+    pub up-to-end : i ≡ length table / 4 → Passes ≡ checked (first (each pair-checks [] (pairs-in text table)))
+    up-to-end f = each-end pair-checks (pair-in text table) 4 (length table / 4) i (4 * i) (up-to-reached .checks) (omega arith)
+
+pub up-to-all : (text table s : List ℕ) (r : Checked) → CheckedUpTo text table (length table / 4) s r → r ≡ checked (first (each pair-checks [] (pairs-in text table)))
+up-to-all text table s r h = go r refl
+  where
+    go : (x : Checked) → r ≡ x → r ≡ checked (first (each pair-checks [] (pairs-in text table)))
+    go Passes e = e ∙ up-to-end text table (length table / 4) s r h e refl
+    go (Fails q) e = e ∙ up-to-fails text table (length table / 4) s r h q e

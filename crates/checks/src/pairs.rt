@@ -5,6 +5,7 @@ use super::seen::is_new;
 use super::tables::check_table;
 use super::tables::entries_size;
 use super::tables::is_text;
+use index::least;
 use wire::refusals::KEY_NOT_UTF8;
 use wire::refusals::KEY_SEEN_BEFORE;
 use wire::refusals::PAIRS_TOO_LONG;
@@ -18,7 +19,7 @@ ghost use Rattle.format.specs.Serialize.{every};
 ghost use Rattle.format.specs.Checks.{first, each, pair-checks};
 ghost use Rattle.format.specs.Lent.{pairs-in, places, in-text, writing-aad-section};
 ghost use Rattle.checks.specs.Answers.{checked};
-ghost use Rattle.checks.specs.Seen.{Indexed, PairChecked};
+ghost use Rattle.checks.specs.Seen.{Indexed, PairChecked, Reached, CheckedUpTo};
 
 // 10, 11 and 12 of the i-th pair, which stands at `at`. The index has the keys of the pairs before it, and then its own.
 fn check_pair(text: &[u8], table: &[u32], i: usize, at: usize, keys: &mut [u16]) -> Checked
@@ -37,15 +38,14 @@ fn check_pair(text: &[u8], table: &[u32], i: usize, at: usize, keys: &mut [u16])
     fails(KEY_NOT_UTF8)
 }
 
-// The same of each pair, with an index that has room for all of them.
-fn check_by_index(text: &[u8], table: &[u32], keys: &mut [u16]) -> Checked
-    requires { ⌜ (every (in-text (now text) (now table)) (places (now table)) ≡ true) × (length (now table) / 4 ≤ length (now keys)) × (length (now table) / 4 ≤ 65535) ⌝ }
-    ensures { λ r. ⌜ r ≡ checked (first (each pair-checks [] (pairs-in (now (text .entry)) (now (table .entry))))) ⌝ }
+// The same of the pairs from the `from`-th to the `to`-th, whose keys the index has room for.
+fn check_up_to(text: &[u8], table: &[u32], from: usize, to: usize, keys: &mut [u16]) -> Checked
+    requires { ⌜ (every (in-text (now text) (now table)) (places (now table)) ≡ true) × (length (now table) / 4 ≤ 65535) × Reached (now text) (now table) from (now keys) × (from ≤ to) × (to ≤ length (now table) / 4) × (to ≤ length (now keys)) ⌝ }
+    ensures { λ r. ⌜ CheckedUpTo (now (text .entry)) (now (table .entry)) to (now (keys .exit)) r ⌝ }
 {
-    let n = table.len() / 4;
-    let mut i: usize = 0;
-    let mut at: usize = 0;
-    while i < n {
+    let mut i = from;
+    let mut at = 4 * from;
+    while i < to {
         let c = check_pair(text, table, i, at, keys);
         if let Checked::Fails(r) = c {
             return Checked::Fails(r);
@@ -56,29 +56,37 @@ fn check_by_index(text: &[u8], table: &[u32], keys: &mut [u16]) -> Checked
     Checked::Passes
 }
 
-// With an index for 32 pairs, for 1,024, and for as many as there may be: an array is written whole before it is used.
-fn check_few(text: &[u8], table: &[u32]) -> Checked
-    requires { ⌜ (every (in-text (now text) (now table)) (places (now table)) ≡ true) × (length (now table) / 4 ≤ 32) ⌝ }
+// The pairs from the `from`-th on, with an index for as many as 27 leaves.
+fn check_with_largest(text: &[u8], table: &[u32], from: usize, keys: &[u16]) -> Checked
+    requires { ⌜ (every (in-text (now text) (now table)) (places (now table)) ≡ true) × (length (now table) / 4 ≤ 65535) × Reached (now text) (now table) from (now keys) × (length (now keys) ≤ 65535) ⌝ }
     ensures { λ r. ⌜ r ≡ checked (first (each pair-checks [] (pairs-in (now (text .entry)) (now (table .entry))))) ⌝ }
 {
-    let mut keys = [0u16; 32];
-    check_by_index(text, table, &mut keys[..])
+    let mut largest = [0u16; 65535];
+    index::copy(keys, &mut largest[..]);
+    check_up_to(text, table, from, table.len() / 4, &mut largest[..])
 }
 
-fn check_some(text: &[u8], table: &[u32]) -> Checked
-    requires { ⌜ (every (in-text (now text) (now table)) (places (now table)) ≡ true) × (length (now table) / 4 ≤ 1024) ⌝ }
+// The pairs from the `from`-th on. Where the index is full, a larger one takes its place, each in a frame of its own (see
+// `context::pairs`).
+fn check_from(text: &[u8], table: &[u32], from: usize, keys: &mut [u16]) -> Checked
+    requires { ⌜ (every (in-text (now text) (now table)) (places (now table)) ≡ true) × (length (now table) / 4 ≤ 65535) × Reached (now text) (now table) from (now keys) × (length (now keys) ≤ 1024) ⌝ }
     ensures { λ r. ⌜ r ≡ checked (first (each pair-checks [] (pairs-in (now (text .entry)) (now (table .entry))))) ⌝ }
 {
-    let mut keys = [0u16; 1024];
-    check_by_index(text, table, &mut keys[..])
-}
-
-fn check_many(text: &[u8], table: &[u32]) -> Checked
-    requires { ⌜ (every (in-text (now text) (now table)) (places (now table)) ≡ true) × (length (now table) / 4 ≤ 65535) ⌝ }
-    ensures { λ r. ⌜ r ≡ checked (first (each pair-checks [] (pairs-in (now (text .entry)) (now (table .entry))))) ⌝ }
-{
-    let mut keys = [0u16; 65535];
-    check_by_index(text, table, &mut keys[..])
+    let n = table.len() / 4;
+    let to = least(n, keys.len());
+    let c = check_up_to(text, table, from, to, keys);
+    if let Checked::Fails(r) = c {
+        return Checked::Fails(r);
+    }
+    if to == n {
+        return Checked::Passes;
+    }
+    if keys.len() < 1024 {
+        let mut larger = [0u16; 1024];
+        index::copy(keys, &mut larger[..]);
+        return check_from(text, table, to, &mut larger[..]);
+    }
+    check_with_largest(text, table, to, keys)
 }
 
 // 10, 11 and 12 of each pair.
@@ -86,14 +94,8 @@ fn check_each_pair(text: &[u8], table: &[u32]) -> Checked
     requires { ⌜ (every (in-text (now text) (now table)) (places (now table)) ≡ true) × (length (now table) / 4 ≤ 65535) ⌝ }
     ensures { λ r. ⌜ r ≡ checked (first (each pair-checks [] (pairs-in (now (text .entry)) (now (table .entry))))) ⌝ }
 {
-    let n = table.len() / 4;
-    if n <= 32 {
-        return check_few(text, table);
-    }
-    if n <= 1024 {
-        return check_some(text, table);
-    }
-    check_many(text, table)
+    let mut keys = [0u16; 32];
+    check_from(text, table, 0, &mut keys[..])
 }
 
 // Write a context section, all but 28: 26; 27; per pair 10, 11, 12; 13.
@@ -112,23 +114,4 @@ pub fn check_pairs(text: &[u8], table: &[u32]) -> Checked
         return Checked::Passes;
     }
     fails(PAIRS_TOO_LONG)
-}
-
-// The same of at most 32 pairs, with no large index on the stack.
-pub fn check_few_pairs(text: &[u8], table: &[u32]) -> Checked
-    requires { ⌜ length (now table) / 4 ≤ 32 ⌝ }
-    ensures { λ r. ⌜ r ≡ checked (first (writing-aad-section (now (text .entry)) (now (table .entry)) .checks)) ⌝ }
-{
-    let a = check_table(text, table, 4);
-    if let Checked::Fails(r) = a {
-        return Checked::Fails(r);
-    }
-    let b = check_few(text, table);
-    if let Checked::Fails(r) = b {
-        return Checked::Fails(r);
-    }
-    if 65534 <= entries_size(table) {
-        return fails(PAIRS_TOO_LONG);
-    }
-    Checked::Passes
 }

@@ -1,7 +1,8 @@
 use Prim.Native.Nat.{_-_}
 use Rattle.format.specs.Lent.{key-in}
 use Rattle.format.specs.Checks.{key-checks}
-use Rattle.checks.proofs.Loops.{Each, each-start, each-more, each-bad, each-end}
+use Rattle.checks.specs.Each.{Each}
+use Rattle.checks.proofs.Loops.{each-start, each-more, each-bad, each-end}
 use borrow.Author.Needs.{needs}
 use Rattle.checks.proofs.keys.check_each_key.Statement.{statement}
 use Rattle.checks.proofs.keys.check_each_key.Tie as tie
