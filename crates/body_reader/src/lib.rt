@@ -134,11 +134,19 @@ fn measure(m: &[u8], start: u64, request: Request) -> MeasureAnswer
         return MeasureAnswer::Not(a.refusal());
     };
     let b = context::section::context_at(m, aad, mode);
-    let ContextAnswer::Accepted { pairs, tail: edks } = b else {
+    let ContextAnswer::Accepted {
+        pairCount: pairs,
+        tail: edks,
+    } = b
+    else {
         return MeasureAnswer::Not(b.refusal());
     };
     let c = keys::section::keys_at(m, edks, max);
-    let KeysAnswer::Accepted { keys, tail: end } = c else {
+    let KeysAnswer::Accepted {
+        keyCount: keys,
+        tail: end,
+    } = c
+    else {
         return MeasureAnswer::Not(c.refusal());
     };
     let d = ends::read_closing(m, end, opening.version);

@@ -6,7 +6,6 @@ mod versions;
 use checks::Checked;
 use checks::WriteAnswer;
 use checks::keys::check_keys;
-use checks::pairs::check_few_pairs;
 use checks::pairs::check_pairs;
 use checks::refuses;
 use fields::BodyNumbers;
@@ -26,16 +25,6 @@ ghost use Rattle.checks.specs.Answers.{checked, Writes};
 ghost use Rattle.body_write.specs.Lent.{body-to-write};
 ghost use Rattle.body_write.specs.Ready.{body-size, Small, SectionsReady, BodyReady};
 
-// Few pairs are checked apart, as in `section_write`, and for the same reason here too.
-fn check_body_pairs(text: &[u8], pairs: &[u32]) -> Checked
-    ensures { λ r. ⌜ r ≡ checked (first (writing-aad-section (now (text .entry)) (now (pairs .entry)) .checks)) ⌝ }
-{
-    if pairs.len() / 4 <= 32 {
-        return check_few_pairs(text, pairs);
-    }
-    check_pairs(text, pairs)
-}
-
 // All but 28, in document 01's order.
 fn check_body(
     n: BodyNumbers,
@@ -51,7 +40,7 @@ fn check_body(
     if let Checked::Fails(r) = a {
         return Checked::Fails(r);
     }
-    let b = check_body_pairs(text, pairs);
+    let b = check_pairs(text, pairs);
     if let Checked::Fails(r) = b {
         return Checked::Fails(r);
     }

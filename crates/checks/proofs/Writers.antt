@@ -21,7 +21,7 @@ use Rattle.checks.specs.declared.WriteAnswer.the-variants.{Written, Refu
 use Rattle.checks.proofs.Stages.{first-pass, first-stop, first-none, first-some, stage-none, stage-some}
 
 -- what was stored from the first byte on fills the output
-stored-first : (out image : List ℕ) → stored out 0 image ≡ filled image out
+pub stored-first : (out image : List ℕ) → stored out 0 image ≡ filled image out
 unfolding stored
 stored-first out image = rw zero-add
 

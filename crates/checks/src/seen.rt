@@ -44,7 +44,7 @@ fn find(text: &[u8], table: &[u32], n: usize, keys: &[u16], key: usize) -> Spot
 }
 
 // Whether the i-th pair, at `at`, has a key that no pair before it has. If so, it goes into the index.
-pub fn is_new(text: &[u8], table: &[u32], i: usize, at: usize, keys: &mut [u16]) -> bool
+pub(crate) fn is_new(text: &[u8], table: &[u32], i: usize, at: usize, keys: &mut [u16]) -> bool
     requires { ⌜ (Indexed (now text) (now table) i (now keys)) × (Within (now text) (now table) at) × (at ≡ 4 * i) × (i < length (now keys)) × (i < 65536) ⌝ }
     ensures { λ r. ⌜ New (now (text .entry)) (now (table .entry)) i at (now (keys .exit)) r ⌝ }
 {

@@ -4,6 +4,7 @@ use super::Checked;
 use super::fails;
 use wire::refusals::COUNT_OR_PART_TOO_LONG;
 use wire::refusals::TABLE_OR_PLACE;
+use wire::wide;
 ghost use mathlib.Core.Path.{_≡_};
 ghost use Prim.Native.Nat.{_+_, _<_};
 ghost use lib.ListN.{length, getD};
@@ -13,12 +14,6 @@ ghost use Rattle.format.specs.Checks.{first};
 ghost use Rattle.format.specs.Lent.{part-in, places, in-text};
 ghost use Rattle.checks.specs.Answers.{checked};
 ghost use Rattle.checks.specs.Table.{short, numbers-checks, Within, entries-size};
-
-fn wide(x: u32) -> usize
-    ensures { λ r. ⌜ (r ≡ x) × (r < 4294967296) ⌝ }
-{
-    x as usize
-}
 
 pub fn number(table: &[u32], i: usize) -> usize
     requires { ⌜ i < length (now table) ⌝ }
@@ -80,7 +75,7 @@ fn all_short(table: &[u32]) -> bool
 }
 
 // 26 and 27, for items of k numbers.
-pub fn check_table(text: &[u8], table: &[u32], k: usize) -> Checked
+pub(crate) fn check_table(text: &[u8], table: &[u32], k: usize) -> Checked
     requires { ⌜ 0 < k ⌝ }
     ensures { λ r. ⌜ r ≡ checked (first (numbers-checks k (now (text .entry)) (now (table .entry)))) ⌝ }
 {
@@ -117,7 +112,7 @@ pub fn entries_size(table: &[u32]) -> usize
 }
 
 // Whether the part whose place stands at `at` is UTF-8.
-pub fn is_text(text: &[u8], table: &[u32], at: usize) -> bool
+pub(crate) fn is_text(text: &[u8], table: &[u32], at: usize) -> bool
     requires { ⌜ Within (now text) (now table) at ⌝ }
     ensures { λ r. ⌜ r ≡ valid-utf8-seq (part-in (now (text .entry)) (now (table .entry)) at) ⌝ }
 {

@@ -116,7 +116,7 @@ pub fn same(a: &[u8], b: &[u8]) -> bool
     false
 }
 
-pub fn compare(a: &[u8], b: &[u8]) -> Order
+fn compare(a: &[u8], b: &[u8]) -> Order
     ensures { λ r. ⌜ r ≡ compare-bytes (now (a .entry)) (now (b .entry)) ⌝ }
 {
     let i = common_len(a, b);
@@ -136,7 +136,7 @@ pub fn compare(a: &[u8], b: &[u8]) -> Order
 }
 
 // A part of one message against a part of another.
-pub fn same_between(m: &[u8], a: u64, alen: u64, w: &[u8], b: u64, blen: u64) -> bool
+fn same_between(m: &[u8], a: u64, alen: u64, w: &[u8], b: u64, blen: u64) -> bool
     requires { ⌜ (a + alen ≤ length (now m)) × (b + blen ≤ length (now w)) ⌝ }
     ensures { λ r. ⌜ r ≡ same-bytes (bytes-at (now (m .entry)) a alen) (bytes-at (now (w .entry)) b blen) ⌝ }
 {

@@ -1,12 +1,11 @@
 -- The ways out of the functions that find a value, one law each. Assumes nothing.
-use mathlib.Core.Path.{_≡_, refl, sym, ap, _∙_}
+use mathlib.Core.Path.{_≡_, refl, sym, ap, subst, _∙_}
 use mathlib.Core.Bool.{Bool, true, false, cond}
 use mathlib.Core.List.{List, [], _∷_}
 use Prim.Native.Nat.{ℕ, zero, suc, _+_, _-_, _≤_, _<_}
 use native.Mathlib.Nat.{sub-zero, add-sub-cancel-left}
 use native.Mathlib.Omega.{arith}
-use mir.Syntax.{w64}
-use mir.Val.{Fits}
+use denote.Ref.{RefT}
 use lib.ListN.{length, take, drop}
 use Rattle.format.specs.Read.{Answer, accepted, refused, at, operation, addressable}
 use Rattle.format.specs.Serialize.{Part, same-bytes}
@@ -23,7 +22,7 @@ use Rattle.entries.specs.Places.{items-here, items-end, pair-here, pair-end, pa
 use Rattle.entries.specs.Codes.{EntryIs}
 use Rattle.entries.specs.declared.Entry.{Entry}
 use Rattle.entries.proofs.Items.{reach, end-step, here-step}
-use Rattle.context.specs.Codes.{context-of, why-context, found-of, found-in}
+use Rattle.context.specs.Codes.{context-of, why-context, found-of, found-in, PartOf}
 use Rattle.context.specs.declared.ContextAnswer.{ContextAnswer}
 use Rattle.context.specs.declared.ContextAnswer.the-variants as context
 use Rattle.context.specs.declared.FoundAnswer.{FoundAnswer}
@@ -167,24 +166,26 @@ find-known k m start p u e =
     up-known k m (z .1) (length (z .0)) (start + 4) (y .inside) p u (ap (λ (l : List PairAt). at (look-up k l) m (z .1)) (sym (y .are)) ∙ z .3)
 
 -- the companion
+pub part-bytes : (m : List ℕ) (s n : ℕ) → take (s + n - s) (drop s m) ≡ take n (drop s m)
+part-bytes m s n = rw add-sub-cancel-left
+
 module _ (k m : List ℕ) (start : ℕ) (f : FoundAnswer) (is : f ≡ found-of (operation (find-value k) m start)) where
-  pub part-none : (q : Refusal) → f ≡ found.Refused q → [] ≡ found-part (operation (find-value k) m start) .bytes
-  part-none q b = sym (ap (λ (o : Answer Part). found-part o .bytes) (found-no (operation (find-value k) m start) f is q b))
+  pub part-none : (q : Refusal) → f ≡ found.Refused q → (lent given : RefT (List ℕ)) → PartOf lent given (part-of m 0 0) → PartOf lent given (found-part (operation (find-value k) m start))
+  part-none q b lent given h =
+      let e : part-of m 0 0 ≡ found-part (operation (find-value k) m start) = sym (ap found-part (found-no (operation (find-value k) m start) f is q b)) in
+      subst (PartOf lent given) e h
 
   module _ (s n : ℕ) (b : f ≡ found.At s n) where
-    given : HadValue (operation (find-value k) m start) s n
-    given = found-got (operation (find-value k) m start) f is s n b
+    had-value : HadValue (operation (find-value k) m start) s n
+    had-value = found-got (operation (find-value k) m start) f is s n b
 
-    stands : Stands m (given .item)
-    stands = find-known k m start (given .item) (given .tail) (un-operation (find-value k) m start (given .item) (given .tail) (given .is) .2)
+    stands : Stands m (had-value .item)
+    stands = find-known k m start (had-value .item) (had-value .tail) (un-operation (find-value k) m start (had-value .item) (had-value .tail) (had-value .is) .2)
 
     pub part-in : s + n ≤ length m
-    part-in = rw (given .from, given .long) at (stands .within)
+    part-in = rw (had-value .from, had-value .long) at (stands .within)
 
-    pub part-fits : Fits w64 (s + n)
-    part-fits = omega (arith, part-in, un-operation (find-value k) m start (given .item) (given .tail) (given .is) .0)
-
-    pub part-is : take (s + n - s) (drop s m) ≡ found-part (operation (find-value k) m start) .bytes
-    part-is =
-        let e : given .item .bytes ≡ take n (drop s m) = ap (λ (p : Part). p .bytes) (stands .is) ∙ rw (given .from, given .long) in
-        rw add-sub-cancel-left (sym (ap (λ (o : Answer Part). found-part o .bytes) (given .is) ∙ e))
+    pub part-is : (lent given : RefT (List ℕ)) → PartOf lent given (part-of m s n) → PartOf lent given (found-part (operation (find-value k) m start))
+    part-is lent given h =
+        let e : had-value .item ≡ part-of m s n = stands .is ∙ rw (had-value .from, had-value .long) in
+        subst (PartOf lent given) (sym (ap found-part (had-value .is) ∙ e)) h

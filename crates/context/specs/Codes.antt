@@ -1,7 +1,9 @@
 -- The code's answers, of what a reader answers. Assumes nothing.
+use mathlib.Core.Path.{_≡_}
 use mathlib.Core.Bool.{Bool, cond}
 use mathlib.Core.List.{List, [], _∷_}
-use Prim.Native.Nat.{ℕ}
+use Prim.Native.Nat.{ℕ, _+_}
+use denote.Ref.{RefT}
 use lib.ListN.{length}
 use Rattle.format.specs.Read.{Answer, accepted, refused}
 use Rattle.format.specs.Serialize.{Part, same-bytes}
@@ -37,3 +39,10 @@ found-of (refused k p) = found.Refused (because k p)
 unfoldable pub found-in : List ℕ → List PairAt → FoundAnswer
 found-in k [] = found.Refused (because 29 0)
 found-in k (p ∷ ps) = cond (same-bytes k (p .key .bytes)) (found.At (p .value .start) (length (p .value .bytes))) (found-in k ps)
+
+-- a returned slice is a part of the lent one: its bytes are the part's, and they stand in the same block of memory, the part's start
+-- behind the lent slice's first byte
+pub record PartOf (lent given : RefT (List ℕ)) (p : Part) : Type 0 where
+  pub bytes : given .now ≡ p .bytes
+  pub block : given .ptr .0 ≡ lent .ptr .0
+  pub place : given .ptr .1 ≡ lent .ptr .1 + p .start

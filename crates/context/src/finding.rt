@@ -38,13 +38,13 @@ fn look_up(m: &[u8], first: u64, count: u64, key: &[u8]) -> FoundAnswer
 }
 
 // GetEncryptionContext, as a find, of the section at a place.
-pub fn value_at(m: &[u8], start: u64, key: &[u8]) -> FoundAnswer
+pub(crate) fn value_at(m: &[u8], start: u64, key: &[u8]) -> FoundAnswer
     requires { ⌜ (start < 4294967296) × (length (now m) < 4294967296) ⌝ }
     ensures { λ r. ⌜ r ≡ found-of (at (find-value (now (key .entry))) (now (m .entry)) start) ⌝ }
 {
     let a = section::context_at(m, start, Mode::Tolerant);
-    let ContextAnswer::Accepted { pairs, tail: _ } = a else {
+    let ContextAnswer::Accepted { pairCount, tail: _ } = a else {
         return FoundAnswer::Refused(a.refusal());
     };
-    look_up(m, start + 4, pairs, key)
+    look_up(m, start + 4, pairCount, key)
 }

@@ -1,6 +1,6 @@
 // The context section: reading it, and finding a value in it.
-pub mod finding;
-pub mod pairs;
+mod finding;
+mod pairs;
 pub mod section;
 
 use request::Mode;
@@ -10,18 +10,19 @@ use wire::reading;
 use wire::refusals;
 use wire::refuse;
 ghost use mathlib.Core.Path.{_≡_};
-ghost use Prim.Native.Nat.{_<_};
+ghost use Prim.Native.Nat.{_+_, _≤_, _<_};
 ghost use lib.ListN.{length};
 ghost use Rattle.format.specs.Read.{at, operation};
 ghost use Rattle.format.specs.Context.{read-aad-section-into, find-value as value-of};
 ghost use Rattle.format.specs.Lent.{pair-numbers, found-part};
+ghost use Rattle.steps.specs.Places.{part-of};
 ghost use Rattle.request.specs.Codes.{mode-of};
 ghost use Rattle.entries.specs.Codes.{Reads};
-ghost use Rattle.context.specs.Codes.{context-of, found-of, why-context};
+ghost use Rattle.context.specs.Codes.{context-of, found-of, why-context, PartOf};
 
 // How many pairs were read, and the tail; or the refusal.
 pub enum ContextAnswer {
-    Accepted { pairs: u64, tail: u64 },
+    Accepted { pairCount: u64, tail: u64 },
     Refused(Refusal),
 }
 
@@ -37,16 +38,19 @@ impl ContextAnswer {
         ensures { λ r. ⌜ r ≡ why-context self ⌝ }
     {
         match self {
-            ContextAnswer::Accepted { pairs: _, tail: _ } => refuse(refusals::NONE),
+            ContextAnswer::Accepted {
+                pairCount: _,
+                tail: _,
+            } => refuse(refusals::NONE),
             ContextAnswer::Refused(r) => r,
         }
     }
 }
 
-fn accepted(pairs: u64, tail: u64) -> ContextAnswer
-    ensures { λ r. ⌜ r ≡ ContextAnswer.Accepted pairs tail ⌝ }
+fn accepted(pairCount: u64, tail: u64) -> ContextAnswer
+    ensures { λ r. ⌜ r ≡ ContextAnswer.Accepted pairCount tail ⌝ }
 {
-    ContextAnswer::Accepted { pairs, tail }
+    ContextAnswer::Accepted { pairCount, tail }
 }
 
 fn refused(number: u8) -> ContextAnswer
@@ -61,14 +65,14 @@ fn section_into(m: &[u8], start: u64, mode: Mode, table: &mut [u32]) -> ContextA
     ensures { λ r. ⌜ Reads context-of pair-numbers (at (read-aad-section-into (mode-of mode) (length (now (table .entry)))) (now (m .entry)) start) (now (table .entry)) (now (table .exit)) r ⌝ }
 {
     let a = section::context_at(m, start, mode);
-    let ContextAnswer::Accepted { pairs, tail } = a else {
+    let ContextAnswer::Accepted { pairCount, tail } = a else {
         return a;
     };
-    if ((table.len() / 4) as u64) < pairs {
+    if ((table.len() / 4) as u64) < pairCount {
         return refused(refusals::PAIR_TABLE_TOO_SHORT);
     }
-    entries::fill_places(m, start + 4, 2 * pairs, table);
-    accepted(pairs, tail)
+    entries::fill_places(m, start + 4, 2 * pairCount, table);
+    accepted(pairCount, tail)
 }
 
 // ReadAADSection: the places of the pairs go into the table, four numbers a pair.
@@ -92,15 +96,21 @@ pub fn find_value(m: &[u8], start: u64, key: &[u8]) -> FoundAnswer
     FoundAnswer::Refused(refuse(refusals::NOT_ADDRESSABLE))
 }
 
-// The same value as a part of the message; on a refusal the empty first part.
+fn part<'a>(m: &'a [u8], from: usize, len: usize) -> &'a [u8]
+    requires { ⌜ from + len ≤ length (now m) ⌝ }
+    ensures { λ r. ⌜ PartOf (m .entry) r (part-of (now (m .entry)) from len) ⌝ }
+{
+    let to = from + len;
+    &m[from..to]
+}
+
+// The same value as a part of the message, in the message's own memory; on a refusal the empty first part.
 pub fn find_part<'a>(m: &'a [u8], start: u64, key: &[u8]) -> &'a [u8]
-    ensures { λ r. ⌜ now r ≡ found-part (operation (value-of (now (key .entry))) (now (m .entry)) start) .bytes ⌝ }
+    ensures { λ r. ⌜ PartOf (m .entry) r (found-part (operation (value-of (now (key .entry))) (now (m .entry)) start)) ⌝ }
 {
     let f = find_value(m, start, key);
-    let FoundAnswer::At { start: at, len } = f else {
-        return &m[0..0];
+    let FoundAnswer::At { start: from, len } = f else {
+        return part(m, 0, 0);
     };
-    let from = at as usize;
-    let to = (at + len) as usize;
-    &m[from..to]
+    part(m, from as usize, len as usize)
 }

@@ -125,7 +125,7 @@ fn pairs_from(m: &[u8], first: u64, count: usize, from: usize, start: u64, keys:
 }
 
 // ReadAADPairs: where the `count` pairs from `first` on end.
-pub fn read_pairs(m: &[u8], first: u64, count: u64) -> Next
+pub(crate) fn read_pairs(m: &[u8], first: u64, count: u64) -> Next
     requires { ⌜ (first ≤ length (now m)) × (length (now m) < 4294967296) ⌝ }
     ensures { λ r. ⌜ r ≡ next-of (at (repeat count read-next-aad-pair []) (now (m .entry)) first) ⌝ }
 {

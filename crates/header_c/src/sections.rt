@@ -18,7 +18,10 @@ fn context_record(a: ContextAnswer) -> HeaderSection
     ensures { λ r. ⌜ r ≡ context-fields a ⌝ }
 {
     match a {
-        ContextAnswer::Accepted { pairs, tail } => HeaderSection {
+        ContextAnswer::Accepted {
+            pairCount: pairs,
+            tail,
+        } => HeaderSection {
             number: 0,
             position: 0,
             count: pairs,
@@ -50,7 +53,10 @@ fn keys_record(a: KeysAnswer) -> HeaderSection
     ensures { λ r. ⌜ r ≡ keys-fields a ⌝ }
 {
     match a {
-        KeysAnswer::Accepted { keys, tail } => HeaderSection {
+        KeysAnswer::Accepted {
+            keyCount: keys,
+            tail,
+        } => HeaderSection {
             number: 0,
             position: 0,
             count: keys,

@@ -19,7 +19,7 @@ ghost use Rattle.keys.specs.Codes.{keys-of, why-keys};
 
 // How many keys were read, and the tail; or the refusal.
 pub enum KeysAnswer {
-    Accepted { keys: u64, tail: u64 },
+    Accepted { keyCount: u64, tail: u64 },
     Refused(Refusal),
 }
 
@@ -29,16 +29,19 @@ impl KeysAnswer {
         ensures { λ r. ⌜ r ≡ why-keys self ⌝ }
     {
         match self {
-            KeysAnswer::Accepted { keys: _, tail: _ } => refuse(refusals::NONE),
+            KeysAnswer::Accepted {
+                keyCount: _,
+                tail: _,
+            } => refuse(refusals::NONE),
             KeysAnswer::Refused(r) => r,
         }
     }
 }
 
-fn accepted(keys: u64, tail: u64) -> KeysAnswer
-    ensures { λ r. ⌜ r ≡ KeysAnswer.Accepted keys tail ⌝ }
+fn accepted(keyCount: u64, tail: u64) -> KeysAnswer
+    ensures { λ r. ⌜ r ≡ KeysAnswer.Accepted keyCount tail ⌝ }
 {
-    KeysAnswer::Accepted { keys, tail }
+    KeysAnswer::Accepted { keyCount, tail }
 }
 
 fn refused(number: u8) -> KeysAnswer
@@ -53,14 +56,14 @@ fn section_into(m: &[u8], start: u64, max: Max, table: &mut [u32]) -> KeysAnswer
     ensures { λ r. ⌜ Reads keys-of key-numbers (at (read-encrypted-data-keys-section-into (max-of max) (length (now (table .entry)))) (now (m .entry)) start) (now (table .entry)) (now (table .exit)) r ⌝ }
 {
     let a = section::keys_at(m, start, max);
-    let KeysAnswer::Accepted { keys, tail } = a else {
+    let KeysAnswer::Accepted { keyCount, tail } = a else {
         return a;
     };
-    if ((table.len() / 6) as u64) < keys {
+    if ((table.len() / 6) as u64) < keyCount {
         return refused(refusals::KEY_TABLE_TOO_SHORT);
     }
-    entries::fill_places(m, start + 2, 3 * keys, table);
-    accepted(keys, tail)
+    entries::fill_places(m, start + 2, 3 * keyCount, table);
+    accepted(keyCount, tail)
 }
 
 // ReadEncryptedDataKeysSection: the places of the keys go into the table, six numbers a key.

@@ -1,7 +1,7 @@
 // How long the lines are, before any is written.
 use body_reader::HeaderBody;
-use text::fields::wide;
 use text::numerals::decimal_size;
+use wire::wide;
 ghost use mathlib.Core.Path.{_≡_};
 ghost use mathlib.Core.List.{_++_};
 ghost use Prim.Native.Nat.{_+_, _*_, _≤_, _<_};

@@ -22,7 +22,7 @@ fn put_part(text: &[u8], table: &[u32], j: usize, out: &mut [u8], at: usize) -> 
 }
 
 // Writes the entries of the table's parts from `from` on.
-pub fn put_entries(text: &[u8], table: &[u32], out: &mut [u8], from: usize)
+pub(crate) fn put_entries(text: &[u8], table: &[u32], out: &mut [u8], from: usize)
     requires { ⌜ (every (in-text (now text) (now table)) (places (now table)) ≡ true) × (every (short (now table)) (places (now table)) ≡ true) × (from + entries-size (now table) ≤ length (now out)) ⌝ }
     ensures { λ _. ⌜ now (out .exit) ≡ stored (now (out .entry)) from (images write-short-length-seq (parts-in (now (text .entry)) (now (table .entry)))) ⌝ }
 {

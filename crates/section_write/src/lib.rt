@@ -1,11 +1,10 @@
 // Writes the two sections of a header body from a lent text and lent tables of places. Everything is tested before anything is
 // stored, so that a refusal leaves the output as it was.
-pub mod entries;
+mod entries;
 
 use checks::Checked;
 use checks::WriteAnswer;
 use checks::keys::check_keys;
-use checks::pairs::check_few_pairs;
 use checks::pairs::check_pairs;
 use checks::refuses;
 use checks::tables::entries_size;
@@ -72,22 +71,11 @@ pub fn put_keys_section(text: &[u8], keys: &[u32], out: &mut [u8])
     entries::put_entries(text, keys, out, 2);
 }
 
-// Few pairs are checked apart, since the check of any number of them has a large index on its stack. Each writer has this choice
-// in itself: were it made in one place, the compiler would join the two frames.
-fn check_section_pairs(text: &[u8], pairs: &[u32]) -> Checked
-    ensures { λ r. ⌜ r ≡ checked (first (writing-aad-section (now (text .entry)) (now (pairs .entry)) .checks)) ⌝ }
-{
-    if pairs.len() / 4 <= 32 {
-        return check_few_pairs(text, pairs);
-    }
-    check_pairs(text, pairs)
-}
-
 // Write a context section: 26; 27; per pair 10, 11, 12; 13; 28.
 pub fn write_aad_section(text: &[u8], pairs: &[u32], out: &mut [u8]) -> WriteAnswer
     ensures { λ r. ⌜ Writes (writing-aad-section (now (text .entry)) (now (pairs .entry))) (now (out .entry)) (now (out .exit)) r ⌝ }
 {
-    let c = check_section_pairs(text, pairs);
+    let c = check_pairs(text, pairs);
     if let Checked::Fails(r) = c {
         return WriteAnswer::Refused(r);
     }

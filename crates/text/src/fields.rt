@@ -1,6 +1,7 @@
 // Words, fields and line ends, and the lines of items whose parts stand in a table.
 use super::numerals::put_decimal;
 use super::numerals::put_hex;
+use wire::wide;
 use wire::writing::put_bytes;
 use wire::writing::put_u8;
 ghost use mathlib.Core.Path.{_≡_};
@@ -49,13 +50,6 @@ pub fn put_hex_field(m: &[u8], start: usize, len: usize, out: &mut [u8], at: usi
     put_hex(m, start, len, out, to)
 }
 
-// A number of a table, as the code counts.
-pub fn wide(x: u32) -> usize
-    ensures { λ r. ⌜ (r ≡ x) × (r < 4294967296) ⌝ }
-{
-    x as usize
-}
-
 // The part whose place stands at j of the table.
 fn put_part(m: &[u8], table: &[u32], j: usize, out: &mut [u8], at: usize) -> usize
     requires { ⌜ PartThere (now m) (now table) j × Room (now out) at (part-field (now m) (now table) j) ⌝ }
@@ -67,14 +61,7 @@ fn put_part(m: &[u8], table: &[u32], j: usize, out: &mut [u8], at: usize) -> usi
 }
 
 // The n parts whose places begin at `first`.
-pub fn put_parts(
-    m: &[u8],
-    table: &[u32],
-    first: usize,
-    n: usize,
-    out: &mut [u8],
-    at: usize,
-) -> usize
+fn put_parts(m: &[u8], table: &[u32], first: usize, n: usize, out: &mut [u8], at: usize) -> usize
     requires { ⌜ All (PartThere (now m) (now table)) 2 n first × Room (now out) at (texts (part-field (now m) (now table)) 2 n first) ⌝ }
     ensures { λ r. ⌜ Put (texts (part-field (now (m .entry)) (now (table .entry))) 2 n first) (now (out .entry)) at (now (out .exit)) r ⌝ }
 {

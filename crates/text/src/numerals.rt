@@ -34,7 +34,7 @@ pub fn decimal_size(n: u64) -> usize
     20 - spell(n, &mut text)
 }
 
-pub fn put_decimal(n: u64, out: &mut [u8], at: usize) -> usize
+pub(crate) fn put_decimal(n: u64, out: &mut [u8], at: usize) -> usize
     requires { ⌜ Room (now out) at (decimal-text n) ⌝ }
     ensures { λ r. ⌜ Put (decimal-text n) (now (out .entry)) at (now (out .exit)) r ⌝ }
 {
@@ -61,7 +61,7 @@ fn put_hex_byte(b: u8, out: &mut [u8], at: usize)
 }
 
 // The bytes of the message from `start` on, two digits each.
-pub fn put_hex(m: &[u8], start: usize, len: usize, out: &mut [u8], at: usize) -> usize
+pub(crate) fn put_hex(m: &[u8], start: usize, len: usize, out: &mut [u8], at: usize) -> usize
     requires { ⌜ There (now m) start len × Room (now out) at (hex (bytes-at (now m) start len)) ⌝ }
     ensures { λ r. ⌜ Put (hex (bytes-at (now (m .entry)) start len)) (now (out .entry)) at (now (out .exit)) r ⌝ }
 {

@@ -199,7 +199,7 @@ fn twos_end(m: &[u8], from: usize) -> usize
 }
 
 // Whether all of m is UTF-8.
-pub fn is_utf8(m: &[u8]) -> bool
+fn is_utf8(m: &[u8]) -> bool
     ensures { λ r. ⌜ r ≡ valid-utf8-seq (now (m .entry)) ⌝ }
 {
     let mut i: usize = 0;

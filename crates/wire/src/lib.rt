@@ -5,6 +5,7 @@ pub mod refusals;
 pub mod writing;
 
 ghost use mathlib.Core.Path.{_≡_};
+ghost use Prim.Native.Nat.{_<_};
 ghost use Rattle.wire.specs.Codes.{because, why-number, why-span};
 
 // The number is one of `refusals`. The position is the place wanted for SHORTAGE, and otherwise 0.
@@ -21,6 +22,13 @@ pub fn refuse(number: u8) -> Refusal
         number,
         position: 0,
     }
+}
+
+// A 32-bit number of a table, as the code counts. `reading` and `index` have the same for 8 and 16 bits, since a function takes one width.
+pub fn wide(x: u32) -> usize
+    ensures { λ r. ⌜ (r ≡ x) × (r < 4294967296) ⌝ }
+{
+    x as usize
 }
 
 // The message does not reach the position.

@@ -30,7 +30,7 @@ fn wide(x: u8) -> u64
 }
 
 // The number of 8, 16 or 32 bits at a place where one is known to stand.
-pub fn known_u8(m: &[u8], s: u64) -> u64
+fn known_u8(m: &[u8], s: u64) -> u64
     requires { ⌜ s + 1 ≤ length (now m) ⌝ }
     ensures { λ r. ⌜ (r ≡ number8 (now (m .entry)) s) × (r < 256) ⌝ }
 {
@@ -45,7 +45,7 @@ pub fn known_u16(m: &[u8], s: u64) -> u64
     known_u8(m, s) * 256 + known_u8(m, s + 1)
 }
 
-pub fn known_u32(m: &[u8], s: u64) -> u64
+fn known_u32(m: &[u8], s: u64) -> u64
     requires { ⌜ s + 4 ≤ length (now m) ⌝ }
     ensures { λ r. ⌜ (r ≡ number32 (now (m .entry)) s) × (r < 4294967296) ⌝ }
 {
@@ -89,7 +89,7 @@ pub fn read_u32(m: &[u8], s: u64) -> Number
 }
 
 // n bytes, by document 01's words: they are there when s + n is at most the message's length, n = 0 included.
-pub fn bytes_at(m: &[u8], s: u64, n: u64) -> Span
+pub(crate) fn bytes_at(m: &[u8], s: u64, n: u64) -> Span
     requires { ⌜ s + n < 2 ^ 64 ⌝ }
     ensures { λ r. ⌜ r ≡ span-of (read-at n (now (m .entry)) s) ⌝ }
 {
