@@ -1,2 +1,3 @@
 pub mod BodyCrossing
 pub mod Crossing
+pub mod Copying

@@ -2,13 +2,15 @@
 use Prim.Native.Nat.{ℕ}
 use mathlib.Core.Path.{_≡_}
 use mathlib.Core.List.{List}
+use mathlib.Core.Bool.{cond}
+use lib.Dec.{leb}
 use lib.ListN.{length}
 use Rattle.format.specs.Read.{Answer, accepted, refused}
 use Rattle.format.specs.Serialize.{Part}
 use Rattle.format.specs.Fields.{HeaderBody as BodyRead}
 use Rattle.format.specs.Auth.{no-header-auth}
 use Rattle.format.specs.Auth.{HeaderAuth as AuthTag}
-use Rattle.format.specs.Lent.{pair-table-after, key-table-after, Writing, written, output-after}
+use Rattle.format.specs.Lent.{pair-table-after, key-table-after, filled, Writing, written, output-after}
 use Rattle.fields.specs.declared.BodyNumbers.{BodyNumbers}
 use Rattle.context.specs.declared.ContextAnswer.{ContextAnswer}
 use Rattle.context.specs.declared.ContextAnswer.the-variants as context
@@ -27,6 +29,7 @@ use Rattle.header_c.specs.declared.HeaderSection.{HeaderSection}
 use Rattle.header_c.specs.declared.HeaderAuth.{HeaderAuth}
 use Rattle.header_c.specs.declared.HeaderBody.{HeaderBody}
 use Rattle.header_c.specs.declared.HeaderPlace.{HeaderPlace}
+use Rattle.header_c.specs.declared.HeaderCopied.{HeaderCopied}
 use Rattle.header_c.specs.declared.HeaderWritten.{HeaderWritten}
 
 -- a section of pairs or of keys
@@ -115,6 +118,27 @@ place-record (refused k p) = record { number = k; position = p; start = 0; len =
 abbrev pub found-fields : FoundAnswer → HeaderPlace
 found-fields (found.At s n) = record { number = 0; position = 0; start = s; len = n }
 found-fields (found.Refused q) = record { number = q .number; position = q .position; start = 0; len = 0 }
+
+-- a value that is copied; 28 where the output is too short for it
+abbrev pub copied : ℕ → ℕ → ℕ → HeaderCopied
+copied k p n = record { number = k; position = p; length = n }
+
+abbrev pub copied-record : Answer Part → List ℕ → HeaderCopied
+copied-record (accepted v t) out = cond (leb (length (v .bytes)) (length out)) (copied 0 0 (length (v .bytes))) (copied 28 0 0)
+copied-record (refused k p) out = copied k p 0
+
+abbrev pub copied-output : Answer Part → List ℕ → List ℕ
+copied-output (accepted v t) out = cond (leb (length (v .bytes)) (length out)) (filled (v .bytes) out) out
+copied-output (refused k p) out = out
+
+pub record Copies (o : Answer Part) (before after : List ℕ) (r : HeaderCopied) : Type 0 where
+  pub answer : r ≡ copied-record o before
+  pub output : after ≡ copied-output o before
+
+-- where there is nothing to copy
+abbrev pub nothing-copied : FoundAnswer → HeaderCopied
+nothing-copied (found.At s n) = copied 0 0 0
+nothing-copied (found.Refused q) = copied (q .number) (q .position) 0
 
 -- what was written
 abbrev pub written-record : Answer (Unit {0}) → HeaderWritten

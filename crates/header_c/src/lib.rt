@@ -53,6 +53,14 @@ pub struct HeaderPlace {
     pub len: u64,
 }
 
+// A value that was copied: how many bytes from the first byte of the output on; 0 on a refusal.
+#[repr(C)]
+pub struct HeaderCopied {
+    pub number: u64,
+    pub position: u64,
+    pub length: u64,
+}
+
 // What a writer wrote: how many bytes from the first byte of the output on; 0 on a refusal.
 #[repr(C)]
 pub struct HeaderWritten {
