@@ -27,4 +27,5 @@ pub mod Sections
 pub mod Grammar
 pub mod Characters
 pub mod Lengths
+pub mod Tables
 pub mod Pinned

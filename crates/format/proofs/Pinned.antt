@@ -21,6 +21,7 @@ use Rattle.format.proofs.Grammar.{valid-octets, octets-valid}
 use Rattle.format.proofs.Characters.{to-characters, to-octets}
 use Rattle.format.proofs.Suites.{in-a-row, row-of, no-third, committing, eleven}
 use Rattle.format.proofs.Context.{length-pairs}
+use Rattle.format.proofs.Tables.{tables}
 use Rattle.format.proofs.Lengths.{lengths}
 use Rattle.format.proofs.Find.{same-equal, equal-same, seen-has, has-seen}
 
@@ -122,6 +123,7 @@ pinned =
       frames = frames;
       maximum = λ n max. record { then-holds = is-leb n max; holds-then = leb-is n max };
       no-maximum = λ n. refl;
+      tables = tables;
       pairs-take = length-pairs;
       lengths = lengths;
       pairs-join = pairs-join;

@@ -3,10 +3,11 @@
 use mathlib.Core.Path.{_≡_}
 use mathlib.Core.Bool.{Bool, true, false, cond}
 use mathlib.Core.Logic.{_⊎_}
+use mathlib.Core.Option as option
 use mathlib.Core.List.{List, [], _∷_, _++_, map, List·Memᴰ}
 use Prim.Native.Nat.{ℕ, _+_, _*_, _/_, _%_, _≤_, _<_}
 use lib.Dec.{leb}
-use lib.ListN.{length}
+use lib.ListN.{length, getD}
 use Rattle.format.specs.Read.{at}
 use Rattle.format.specs.Serialize.{read, read-at, number, write-uint16, write-uint32, same-bytes}
 use Rattle.format.specs.Utf8.{Range, has, rows, valid-utf8-seq}
@@ -14,9 +15,11 @@ use Rattle.format.specs.Shared.{one-or-two, SuiteRow, row, suites, suite
 use Rattle.format.specs.Fields.{Pair, PairAt, pair-of, EncryptedDataKey}
 use Rattle.format.specs.Context.{seen, linear-length, write-aad-pairs}
 use Rattle.format.specs.Keys.{Max, no-max, at-most, within, write-encrypted-data-keys}
+use Rattle.format.specs.Checks.{first}
+use Rattle.format.specs.Lent.{table-checks}
 use Rattle.format.specs.Demand3.{Has}
 use Rattle.format.specs.Characters.{Characters}
-use Rattle.format.specs.Lengths.{Lengths}
+use Rattle.format.specs.Lengths.{JustWhere, Lengths}
 
 -- a row's ranges, byte by byte
 pub data Match : List Range → List ℕ → Type 0 where
@@ -37,6 +40,11 @@ pub data Octets : List ℕ → Type 0 where
 pub record Decides (test : Bool) (P : Type 0) : Type 0 where
   pub then-holds : test ≡ true → P
   pub holds-then : P → test ≡ true
+
+-- a writer's table is in items of k numbers, and each place of it, a start and a length, lies within the text
+pub record InText (k : ℕ) (text table : List ℕ) : Type 0 where
+  pub in-items : length table % k ≡ 0
+  pub inside : (i : ℕ) → i < length table / 2 → getD table (2 * i) 0 + getD table (2 * i + 1) 0 ≤ length text
 
 abbrev pub number-of : SuiteRow → ℕ
 number-of r = r .number
@@ -70,6 +78,8 @@ pub record Pinned : Type 0 where
   -- a maximum is passed by a count above it
   pub maximum : (n max : ℕ) → Decides (within n (at-most max)) (n ≤ max)
   pub no-maximum : (n : ℕ) → within n no-max ≡ true
+  -- 26
+  pub tables : (k : ℕ) (text table : List ℕ) → JustWhere (first (table-checks k text table) ≡ option.none) (InText k text table)
   -- what pairs take is what their entries take
   pub pairs-take : (ps : List Pair) → length (write-aad-pairs ps) ≡ linear-length ps
   -- the lengths

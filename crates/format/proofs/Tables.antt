@@ -1,0 +1,38 @@
+-- Refusal 26 speaks of each place of a table. Assumes nothing.
+use mathlib.Core.Path.{_≡_, refl, sym, ap, _∙_}
+use mathlib.Core.Bool.{Bool, true}
+use mathlib.Core.Option.{none}
+use mathlib.Core.List.{List}
+use Prim.Native.Nat.{ℕ, zero, suc, _+_, _*_, _/_, _%_, _≤_, _<_}
+use native.Mathlib.Omega.{arith}
+use lib.Dec.{eqb}
+use lib.ListN.{length, getD}
+use Rattle.format.specs.Serialize.{every}
+use Rattle.format.specs.Checks.{first}
+use Rattle.format.specs.Lent.{items, here, places, in-text, table-checks}
+use Rattle.format.specs.Lengths.{JustWhere}
+use Rattle.format.specs.Pinned.{InText}
+use Rattle.format.proofs.Tests.{leb-is, is-leb, eqb-is, is-eqb}
+use Rattle.format.proofs.Firsts.{holds, unheld, both, and}
+
+-- a test of the places from one on, each two numbers behind the one before it
+at-each : (f : ℕ → Bool) (n at : ℕ) → every f (items here 2 n at) ≡ true → (i j : ℕ) → i < n → j ≡ at + 2 * i → f j ≡ true
+unfolding every items
+at-each f zero at e i j h q = absurd (omega arith)
+at-each f (suc n) at e zero j h q = let z = both (f at) (every f (items here 2 n (at + 2))) e in let w : j ≡ at = omega arith in ap f w ∙ z .0
+at-each f (suc n) at e (suc i) j h q = let z = both (f at) (every f (items here 2 n (at + 2))) e in at-each f n (at + 2) (z .1) i j (omega arith) (omega arith)
+
+each-at : (f : ℕ → Bool) (n at : ℕ) → ((i j : ℕ) → i < n → j ≡ at + 2 * i → f j ≡ true) → every f (items here 2 n at) ≡ true
+unfolding every items
+each-at f zero at h = refl
+each-at f (suc n) at h = and (h 0 at (omega arith) (omega arith)) (each-at f n (at + 2) (λ i j k q. h (suc i) j (omega arith) (omega arith)))
+
+pub tables : (k : ℕ) (text table : List ℕ) → JustWhere (first (table-checks k text table) ≡ none) (InText k text table)
+unfolding table-checks in-text
+tables k text table =
+    record {
+      onward = λ e.
+          let (a, (b, u)) = holds (table-checks k text table) e in
+          record { in-items = is-eqb _ _ a; inside = λ i h. is-leb _ _ (at-each (in-text text table) (length table / 2) 0 b i (2 * i) h (omega arith)) };
+      back = λ t. unheld (table-checks k text table) (eqb-is _ _ (t .in-items), (each-at (in-text text table) (length table / 2) 0 (λ i j h q. let e : j ≡ 2 * i = omega arith in rw e (leb-is _ _ (t .inside i h))), tt));
+    }
