@@ -90,21 +90,29 @@ typedef struct HeaderAuth {
     uint8_t tag[16];
 } HeaderAuth;
 
-/* A body that was read. 120 bytes. messageType, headerIvLength, suiteData and suiteDataLen are 0 where the version lacks them. */
+/*
+ * The numbers among a body's fields: what the body reader gives and the body writer takes. Each has 32 bits, also where it is stored
+ * in 8 or 16, so that the writer tests the number that it is handed: 257 is no version. 24 bytes.
+ */
+typedef struct HeaderNumbers {
+    uint32_t version;     /* 1 or 2 */
+    uint32_t messageType; /* 0x80 in version 1, 0 in version 2 */
+    uint32_t suite;
+    uint32_t contentType;    /* 1 non-framed, 2 framed */
+    uint32_t headerIvLength; /* 12 in version 1, 0 in version 2 */
+    uint32_t frameLength;
+} HeaderNumbers;
+
+/* A body that was read. 96 bytes. suiteDataStart and suiteDataLen are 0 in version 1, which has no suite data. */
 typedef struct HeaderBody {
     uint64_t number;
     uint64_t position;
-    uint64_t version; /* 1 or 2 */
-    uint64_t messageType;
-    uint64_t suite;
-    uint64_t messageId; /* the place of the message ID's first byte */
+    HeaderNumbers numbers;
+    uint64_t messageIdStart; /* the place of the message ID's first byte */
     uint64_t messageIdLen;
-    uint64_t pairs; /* how many pairs of the encryption context */
-    uint64_t keys;  /* how many encrypted data keys */
-    uint64_t contentType; /* 1 non-framed, 2 framed */
-    uint64_t headerIvLength;
-    uint64_t frameLength;
-    uint64_t suiteData; /* the place of the suite data's first byte */
+    uint64_t pairCount; /* how many pairs of the encryption context */
+    uint64_t keyCount;  /* how many encrypted data keys */
+    uint64_t suiteDataStart; /* the place of the suite data's first byte */
     uint64_t suiteDataLen;
     uint64_t tail;
 } HeaderBody;
@@ -114,16 +122,6 @@ typedef struct HeaderWritten {
     uint64_t number;
     uint64_t length; /* how many bytes, from the first byte of the output on */
 } HeaderWritten;
-
-/* The numbers that the body writer is handed, each as wide as it is stored. 12 bytes. */
-typedef struct HeaderNumbers {
-    uint8_t version;
-    uint8_t messageType; /* 0x80 in version 1, 0 in version 2 */
-    uint16_t suite;
-    uint8_t contentType;
-    uint8_t headerIvLength; /* 12 in version 1, 0 in version 2 */
-    uint32_t frameLength;
-} HeaderNumbers;
 
 /* READING. A reader changes its tables, and nothing else, and those only where it accepts. */
 
@@ -160,7 +158,7 @@ HeaderSection header_read_encrypted_data_keys_section(const uint8_t *message, si
 HeaderPlace header_find_value(const uint8_t *message, size_t message_len, uint64_t start, const uint8_t *key, size_t key_len);
 
 /* Reads the authentication record of a suite at `start`. Changes nothing. */
-HeaderAuth header_read_header_auth_tag(const uint8_t *message, size_t message_len, uint64_t start, uint16_t suite);
+HeaderAuth header_read_header_auth_tag(const uint8_t *message, size_t message_len, uint64_t start, uint32_t suite);
 
 /*
  * WRITING. A writer changes `out`, and nothing else, and that only where it accepts: the bytes from the first on, `length` of
@@ -177,7 +175,7 @@ HeaderWritten header_write_encrypted_data_keys_section(const uint8_t *text, size
                                                        size_t keys_len, uint8_t *out, size_t out_len);
 
 /* Writes the authentication record of a suite. Version 2 stores no IV: one of 12 bytes is asked for, and its bytes are ignored. */
-HeaderWritten header_write_header_auth_tag(uint16_t suite, const uint8_t *iv, size_t iv_len, const uint8_t *tag, size_t tag_len,
+HeaderWritten header_write_header_auth_tag(uint32_t suite, const uint8_t *iv, size_t iv_len, const uint8_t *tag, size_t tag_len,
                                            uint8_t *out, size_t out_len);
 
 /* Writes a header body. Pairs and keys have their places in one text; message ID and suite data are bytes of their own. */

@@ -9,8 +9,10 @@
 
 static void body_is(const char *what, HeaderBody b, const uint64_t *want)
 {
-    const uint64_t got[15] = {b.number, b.position, b.version, b.messageType, b.suite, b.messageId, b.messageIdLen, b.pairs,
-                              b.keys, b.contentType, b.headerIvLength, b.frameLength, b.suiteData, b.suiteDataLen, b.tail};
+    const HeaderNumbers n = b.numbers;
+    const uint64_t got[15] = {b.number, b.position, n.version, n.messageType, n.suite, n.contentType, n.headerIvLength,
+                              n.frameLength, b.messageIdStart, b.messageIdLen, b.pairCount, b.keyCount, b.suiteDataStart,
+                              b.suiteDataLen, b.tail};
     size_t i;
     for (i = 0; i < 15; i++) {
         same(what, got[i], want[i]);
@@ -37,7 +39,7 @@ static void read_as(const char *what, const uint8_t *m, size_t n, uint64_t start
 
 static void read_bodies(void)
 {
-    static const uint64_t want[15] = {0, 0, 1, 0x80, 0x0178, 4, 16, 1, 1, 2, 12, 4096, 0, 0, 58};
+    static const uint64_t want[15] = {0, 0, 1, 0x80, 0x0178, 2, 12, 4096, 4, 16, 1, 1, 0, 0, 58};
     static const uint64_t plain[6] = {0, 0, 0, 0, NUMBERS, NUMBERS};
     static const uint64_t one[6] = {1, 0, 0, 0, 4, 6}, two[6] = {2, 0, 0, 0, 4, 6}, other[6] = {255, 0, 0, 0, 4, 6};
     static const uint64_t no_key[6] = {0, 0, 1, 0, 4, 6}, one_key[6] = {0, 1, 255, 1, 4, 6};
@@ -46,7 +48,7 @@ static void read_bodies(void)
         uint64_t before;
         HeaderBody body;
         uint64_t after;
-    } guarded = {KEPT, {0, 0, 0, 0, 0, 0, 0, 0, 0, 0, 0, 0, 0, 0, 0}, KEPT};
+    } guarded = {KEPT, {0, 0, {0, 0, 0, 0, 0, 0}, 0, 0, 0, 0, 0, 0, 0}, KEPT};
     fresh();
     guarded.body = header_read_header_body(H, 58, 0, 0, 0, 0, 0, pairs, NUMBERS, keys, NUMBERS);
     body_is("H", guarded.body, want);
@@ -182,18 +184,23 @@ static void write_bodies(void)
 {
     static const HeaderNumbers n = {1, 0x80, 0x0178, 2, 12, 4096};
     static const HeaderNumbers n2 = {2, 0, 0x0578, 1, 0, 0}, wide = {1, 0x80, 0x0378, 2, 12, 0xFEDCBA98u};
-    static const uint64_t want[15] = {0, 0, 2, 0, 0x0578, 3, 32, 1, 0, 1, 0, 0, 56, 32, 88};
-    /* H's numbers, with one of them wrong */
+    static const uint64_t want[15] = {0, 0, 2, 0, 0x0578, 1, 0, 0, 3, 32, 1, 0, 56, 32, 88};
+    /* H's numbers, with one of them wrong; some are right in their lowest byte or bytes */
     static const struct {
         const char *what;
         HeaderNumbers numbers;
         uint64_t number;
     } refusals[] = {{"version", {3, 0x80, 0x0178, 2, 12, 4096}, HEADER_VERSION},
+                    {"version 257", {257, 0x80, 0x0178, 2, 12, 4096}, HEADER_VERSION},
                     {"type", {1, 0x81, 0x0178, 2, 12, 4096}, HEADER_MESSAGE_TYPE},
+                    {"type 180", {1, 0x180, 0x0178, 2, 12, 4096}, HEADER_MESSAGE_TYPE},
                     {"suite", {1, 0x80, 0x7801, 2, 12, 4096}, HEADER_UNKNOWN_SUITE},
+                    {"suite 10178", {1, 0x80, 0x10178, 2, 12, 4096}, HEADER_UNKNOWN_SUITE},
                     {"suite of version 2", {1, 0x80, 0x0478, 2, 12, 4096}, HEADER_SUITE_OF_OTHER_VERSION},
                     {"content type", {1, 0x80, 0x0178, 3, 12, 4096}, HEADER_CONTENT_TYPE},
+                    {"content type 102", {1, 0x80, 0x0178, 0x102, 12, 4096}, HEADER_CONTENT_TYPE},
                     {"IV length", {1, 0x80, 0x0178, 2, 13, 4096}, HEADER_IV_LENGTH},
+                    {"IV length 10C", {1, 0x80, 0x0178, 2, 0x10C, 4096}, HEADER_IV_LENGTH},
                     {"frame length", {1, 0x80, 0x0178, 2, 12, 0}, HEADER_FRAME_LENGTH}};
     HeaderWritten w;
     size_t i;
@@ -223,10 +230,10 @@ static void auth(void)
     static const uint8_t iv[12] = {1, 2, 3, 4, 5, 6, 7, 8, 9, 10, 11, 12}, no_iv[12], no_tag[16];
     static const uint8_t tag[16] = {201, 202, 203, 204, 205, 206, 207, 208, 209, 210, 211, 212, 213, 214, 215, 216};
     static const struct {
-        uint16_t suite;
+        uint32_t suite;
         size_t iv, tag, room;
         uint64_t number;
-    } refusals[] = {{0, 0, 0, 0, HEADER_UNKNOWN_SUITE}, {0x0178, 11, 0, 0, HEADER_IV_LENGTH}, {0x0478, 12, 15, 0, HEADER_TAG_LENGTH},
+    } refusals[] = {{0, 0, 0, 0, HEADER_UNKNOWN_SUITE}, {0x10178, 12, 16, 28, HEADER_UNKNOWN_SUITE}, {0x0178, 11, 0, 0, HEADER_IV_LENGTH}, {0x0478, 12, 15, 0, HEADER_TAG_LENGTH},
                     {0x0178, 12, 16, 27, HEADER_OUTPUT_TOO_SHORT}};
     HeaderWritten w;
     HeaderAuth a;
@@ -260,6 +267,7 @@ static void auth(void)
     same_bytes("a record cut", a.iv, no_iv, 12);
     same_bytes("a record cut", a.tag, no_tag, 16);
     same("an unknown suite", header_read_header_auth_tag(out, 27, 0, 0x1400).number, HEADER_UNKNOWN_SUITE);
+    same("a suite of 17 bits", header_read_header_auth_tag(out, BYTES, 0, 0x10578).number, HEADER_UNKNOWN_SUITE);
 }
 
 static void listings(void)

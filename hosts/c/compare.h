@@ -15,12 +15,12 @@
 
 /* how the archive lays its structs out, which the values below go round through */
 typedef char sizes[(sizeof(HeaderSection) == 32 && sizeof(HeaderPlace) == 32 && sizeof(HeaderAuth) == 56
-                    && sizeof(HeaderBody) == 120 && sizeof(HeaderWritten) == 16 && sizeof(HeaderNumbers) == 12)
+                    && sizeof(HeaderBody) == 96 && sizeof(HeaderWritten) == 16 && sizeof(HeaderNumbers) == 24)
                        ? 1
                        : -1];
-typedef char offsets[(offsetof(HeaderAuth, iv) == 24 && offsetof(HeaderAuth, tag) == 36 && offsetof(HeaderBody, tail) == 112
-                      && offsetof(HeaderNumbers, suite) == 2 && offsetof(HeaderNumbers, contentType) == 4
-                      && offsetof(HeaderNumbers, headerIvLength) == 5 && offsetof(HeaderNumbers, frameLength) == 8)
+typedef char offsets[(offsetof(HeaderAuth, iv) == 24 && offsetof(HeaderAuth, tag) == 36 && offsetof(HeaderBody, numbers) == 16
+                      && offsetof(HeaderBody, messageIdStart) == 40 && offsetof(HeaderBody, tail) == 88
+                      && offsetof(HeaderNumbers, suite) == 8 && offsetof(HeaderNumbers, frameLength) == 20)
                          ? 1
                          : -1];
 

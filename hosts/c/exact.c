@@ -112,7 +112,6 @@ static void read_cuts(const uint8_t *m, size_t n, size_t np, size_t nk)
 static void write_again(const uint8_t *m, size_t n)
 {
     HeaderBody b;
-    HeaderNumbers x;
     HeaderWritten w;
     const uint8_t *text, *id, *data;
     const uint32_t *p, *k;
@@ -120,16 +119,15 @@ static void write_again(const uint8_t *m, size_t n)
     fresh();
     b = header_read_header_body(m, n, 0, HEADER_EITHER, HEADER_STRICT, HEADER_NO_MAX, 0, pairs, NUMBERS, keys, NUMBERS);
     same("a header", b.number, HEADER_ACCEPTED);
-    x = (HeaderNumbers){(uint8_t)b.version, (uint8_t)b.messageType, (uint16_t)b.suite, (uint8_t)b.contentType,
-                        (uint8_t)b.headerIvLength, (uint32_t)b.frameLength};
     for (room = 0; room <= n; room++) {
         uint8_t *o = lend(fresh_bytes, room);
         text = lend(m, n);
-        id = lend(m + b.messageId, b.messageIdLen);
-        data = lend(m + b.suiteData, b.suiteDataLen);
-        p = lend(pairs, 16 * b.pairs);
-        k = lend(keys, 24 * b.keys);
-        w = header_write_header_body(x, id, b.messageIdLen, data, b.suiteDataLen, text, n, p, 4 * b.pairs, k, 6 * b.keys, o, room);
+        id = lend(m + b.messageIdStart, b.messageIdLen);
+        data = lend(m + b.suiteDataStart, b.suiteDataLen);
+        p = lend(pairs, 16 * b.pairCount);
+        k = lend(keys, 24 * b.keyCount);
+        w = header_write_header_body(b.numbers, id, b.messageIdLen, data, b.suiteDataLen, text, n, p, 4 * b.pairCount, k,
+                                     6 * b.keyCount, o, room);
         written_is("a header", w, room < n ? HEADER_OUTPUT_TOO_SHORT : 0, room < n ? 0 : n);
         same_bytes("a header", o, room < n ? fresh_bytes : m, room);
         let_go();

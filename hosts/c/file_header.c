@@ -33,11 +33,9 @@ static int reads_back(const uint8_t *header, size_t length)
 {
     uint32_t p[4], k[6];
     HeaderBody b = header_read_header_body(header, length, 0, HEADER_EITHER, HEADER_STRICT, HEADER_NO_MAX, 0, p, 4, k, 6);
-    return b.number == HEADER_ACCEPTED && b.tail == length && b.version == numbers.version
-           && b.messageType == numbers.messageType && b.suite == numbers.suite && b.contentType == numbers.contentType
-           && b.headerIvLength == numbers.headerIvLength && b.frameLength == numbers.frameLength && b.suiteDataLen == 0
-           && b.messageIdLen == sizeof id && memcmp(header + b.messageId, id, sizeof id) == 0 && b.pairs == 1 && b.keys == 1
-           && same_parts(header, p, pairs, 4) && same_parts(header, k, keys, 6);
+    return b.number == HEADER_ACCEPTED && b.tail == length && memcmp(&b.numbers, &numbers, sizeof numbers) == 0
+           && b.messageIdLen == sizeof id && memcmp(header + b.messageIdStart, id, sizeof id) == 0 && b.suiteDataLen == 0
+           && b.pairCount == 1 && b.keyCount == 1 && same_parts(header, p, pairs, 4) && same_parts(header, k, keys, 6);
 }
 
 static int file(const char *path, const uint8_t *header, size_t length)

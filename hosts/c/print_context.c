@@ -35,7 +35,7 @@ int main(int argc, char **argv)
         free(message);
         return refused(b.number, b.position);
     }
-    for (i = 0; i < b.pairs; i++) {
+    for (i = 0; i < b.pairCount; i++) {
         print_part(message, pairs + 4 * i, " = ");
         print_part(message, pairs + 4 * i + 2, "\n");
     }

@@ -25,26 +25,25 @@ pub fn which(which: Which) -> reference::Which {
     }
 }
 
-/// Its numbers are 32 bits wide; one too wide for its field has no like here.
-pub fn numbers(wide: &reference::Numbers) -> Option<Numbers> {
-    Some(Numbers {
-        version: wide.version.try_into().ok()?,
-        message_type: wide.message_type.try_into().ok()?,
-        suite: wide.suite.try_into().ok()?,
-        content_type: wide.content_type.try_into().ok()?,
-        iv_length: wide.iv_length.try_into().ok()?,
-        frame_length: wide.frame_length,
-    })
+pub fn numbers(theirs: &reference::Numbers) -> Numbers {
+    Numbers {
+        version: theirs.version,
+        message_type: theirs.message_type,
+        suite: theirs.suite,
+        content_type: theirs.content_type,
+        header_iv_length: theirs.iv_length,
+        frame_length: theirs.frame_length,
+    }
 }
 
-pub fn wide(numbers: Numbers) -> reference::Numbers {
+pub fn their_numbers(ours: Numbers) -> reference::Numbers {
     reference::Numbers {
-        version: numbers.version.into(),
-        message_type: numbers.message_type.into(),
-        suite: numbers.suite.into(),
-        content_type: numbers.content_type.into(),
-        iv_length: numbers.iv_length.into(),
-        frame_length: numbers.frame_length,
+        version: ours.version,
+        message_type: ours.message_type,
+        suite: ours.suite,
+        content_type: ours.content_type,
+        iv_length: ours.header_iv_length,
+        frame_length: ours.frame_length,
     }
 }
 
@@ -79,10 +78,10 @@ pub fn auth(record: reference::AuthRecord) -> AuthRecord {
 
 pub fn body(body: reference::Body) -> Body {
     Body {
-        numbers: numbers(&body.numbers()).expect("what was stored fits its field"),
+        numbers: numbers(&body.numbers()),
         message_id: place(body.id),
-        pairs: body.pairs as usize,
-        keys: body.keys as usize,
+        pair_count: body.pairs as usize,
+        key_count: body.keys as usize,
         suite_data: place(body.suite_data),
         tail: body.tail,
     }

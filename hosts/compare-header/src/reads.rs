@@ -107,9 +107,9 @@ pub fn read_header_body(
 }
 
 /// An authentication record.
-pub fn read_header_auth_tag(message: &[u8], start: u64, suite: u16) -> Answer<AuthRecord> {
+pub fn read_header_auth_tag(message: &[u8], start: u64, suite: u32) -> Answer<AuthRecord> {
     let answer = header::read_header_auth_tag(message, start, suite);
-    let wanted = reference::read_header_auth_tag(message, start, u32::from(suite))
+    let wanted = reference::read_header_auth_tag(message, start, suite)
         .map(auth)
         .map_err(refused);
     same(&answer, &wanted, suite, message, start);

@@ -1,7 +1,7 @@
 //! One request to write, handed to both.
 
 use crate::guarded::Guarded;
-use crate::numbers::{refused, wide, Answer};
+use crate::numbers::{refused, their_numbers, Answer};
 use header::{Numbers, Refusal};
 
 /// What a body writer is lent beside the output.
@@ -60,7 +60,7 @@ pub fn write_encrypted_data_keys_section(
 }
 
 pub fn write_header_auth_tag(
-    suite: u16,
+    suite: u32,
     iv: &[u8],
     tag: &[u8],
     out: &[u8],
@@ -69,7 +69,7 @@ pub fn write_header_auth_tag(
         out,
         || format!("suite {suite:04X}, IV {iv:02X?}, tag {tag:02X?}"),
         |out| header::write_header_auth_tag(suite, iv, tag, out),
-        |out| reference::write_header_auth_tag(u32::from(suite), iv, tag, out),
+        |out| reference::write_header_auth_tag(suite, iv, tag, out),
     )
 }
 
@@ -99,7 +99,7 @@ pub fn write_header_body(lent: BodyLent, out: &[u8]) -> (Answer<usize>, Vec<u8>)
         },
         |out| {
             reference::write_header_body(
-                &wide(lent.numbers),
+                &their_numbers(lent.numbers),
                 lent.message_id,
                 lent.suite_data,
                 lent.text,

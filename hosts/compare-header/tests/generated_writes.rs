@@ -56,17 +56,12 @@ fn key_sections() {
 #[test]
 fn bodies() {
     let mut coverage = Coverage::default();
-    let (mut count, mut too_wide) = (0, 0);
+    let mut count = 0;
     for seed in seeds(1_000_000) {
         let case = body_write_case(seed);
         let fields = &case.fields;
-        // A number wider than its field can't be handed over.
-        let Some(numbers) = numbers(&fields.numbers().into()) else {
-            too_wide += 1;
-            continue;
-        };
         let lent = BodyLent {
-            numbers,
+            numbers: numbers(&fields.numbers().into()),
             message_id: &fields.id,
             suite_data: &fields.suite_data,
             text: &case.lent.text,
@@ -78,7 +73,6 @@ fn bodies() {
         image_is(seed, &answer, case.expected, &case.image);
         count += 1;
     }
-    assert!(too_wide < count / 4, "{too_wide} left out of {count}");
     coverage.print();
     coverage.assert_complete();
     compared(count, "writes of bodies");
@@ -90,8 +84,7 @@ fn authentication_records() {
     let mut count = 0;
     for seed in seeds(600_000) {
         let case = auth_write_case(seed);
-        let suite = u16::try_from(case.suite).expect("a suite is 16 bits wide");
-        let answer = writes::write_header_auth_tag(suite, &case.iv, &case.tag, &case.out);
+        let answer = writes::write_header_auth_tag(case.suite, &case.iv, &case.tag, &case.out);
         coverage.count("write auth", number(&answer.0));
         image_is(seed, &answer, case.expected, &case.image);
         count += 1;

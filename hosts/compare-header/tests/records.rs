@@ -2,6 +2,7 @@
 //! number that can stand for a choice stands for one.
 
 use compare_header::compared;
+use compare_header::numbers::numbers;
 use compare_header::scale::seeds;
 use generator::auth_cases::auth_case;
 use generator::body_cases::body_case;
@@ -117,11 +118,10 @@ fn keys_and_authentication_records() {
         assert!(ours == theirs, "seed {seed}");
 
         let case = auth_case(seed);
-        let suite = u16::try_from(case.suite).expect("a suite is 16 bits wide");
         // SAFETY: as above.
         let read = unsafe {
             let (m, m_len) = (case.message.as_ptr(), case.message.len());
-            header_read_header_auth_tag(m, m_len, case.start, suite)
+            header_read_header_auth_tag(m, m_len, case.start, case.suite)
         };
         let wanted = reference::read_header_auth_tag(&case.message, case.start, case.suite);
         let (number, position) = refusal(&wanted);
@@ -147,17 +147,12 @@ fn body(answer: Result<reference::Body, reference::Refusal>) -> HeaderBody {
     HeaderBody {
         number,
         position,
-        version: of(|body| body.version.into()),
-        message_type: of(|body| body.message_type.into()),
-        suite: of(|body| body.suite.into()),
-        message_id: of(|body| body.id.start),
+        numbers: body.map_or_else(HeaderNumbers::default, |body| numbers(&body.numbers())),
+        message_id_start: of(|body| body.id.start),
         message_id_len: of(|body| body.id.len),
-        pairs: of(|body| body.pairs.into()),
-        keys: of(|body| body.keys.into()),
-        content_type: of(|body| body.content_type.into()),
-        header_iv_length: of(|body| body.iv_length.into()),
-        frame_length: of(|body| body.frame_length.into()),
-        suite_data: of(|body| body.suite_data.start),
+        pair_count: of(|body| body.pairs.into()),
+        key_count: of(|body| body.keys.into()),
+        suite_data_start: of(|body| body.suite_data.start),
         suite_data_len: of(|body| body.suite_data.len),
         tail: of(|body| body.tail),
     }

@@ -12,7 +12,7 @@ use generator::tables::lend;
 use header::{Mode, Numbers, Request, Which};
 
 fn stored(fields: &Fields) -> Numbers {
-    numbers(&fields.numbers().into()).expect("these fields can be stored")
+    numbers(&fields.numbers().into())
 }
 
 /// Requests that take the version.

@@ -40,6 +40,15 @@ fn suite(random: &mut Random) -> (u32, u32) {
     }
 }
 
+/// No suite of the table. Some agree with one in their low 16 bits.
+fn wrong_suite(random: &mut Random, suite: u32) -> u32 {
+    if random.one_in(4) {
+        suite | 0x1_0000 << random.below(16)
+    } else {
+        unknown_suite(random)
+    }
+}
+
 /// The request of a seed to read a record.
 pub fn auth_case(seed: u64) -> AuthCase {
     let mut random = Random::new(seed);
@@ -62,7 +71,7 @@ pub fn auth_case(seed: u64) -> AuthCase {
     };
     let unknown = random.one_in(6);
     if unknown {
-        suite = unknown_suite(random);
+        suite = wrong_suite(random, suite);
     }
     let expected = match placed.fault {
         Some((1, _)) => Expected::Refused(1, 0),
@@ -100,7 +109,7 @@ pub fn auth_write_case(seed: u64) -> AuthWriteCase {
         number = 19;
     }
     if random.one_in(5) {
-        suite = unknown_suite(random);
+        suite = wrong_suite(random, suite);
         number = 6;
     }
     let expected = if number == 0 {

@@ -28,6 +28,20 @@ pub struct HeaderAuth {
     pub tag: [u8; 16],
 }
 
+/// The numbers among a body's fields, which a reader gives and a writer takes.
+/// Each has 32 bits, so that a writer tests the number that it is handed: 257
+/// is no version.
+#[repr(C)]
+#[derive(Clone, Copy, Debug, Default, PartialEq, Eq, Hash)]
+pub struct HeaderNumbers {
+    pub version: u32,
+    pub message_type: u32,
+    pub suite: u32,
+    pub content_type: u32,
+    pub header_iv_length: u32,
+    pub frame_length: u32,
+}
+
 /// A body that was read: its numbers, where its ID and suite data stand, how
 /// many pairs and keys, and the tail. On a refusal all but the number and the
 /// position is 0.
@@ -36,17 +50,12 @@ pub struct HeaderAuth {
 pub struct HeaderBody {
     pub number: u64,
     pub position: u64,
-    pub version: u64,
-    pub message_type: u64,
-    pub suite: u64,
-    pub message_id: u64,
+    pub numbers: HeaderNumbers,
+    pub message_id_start: u64,
     pub message_id_len: u64,
-    pub pairs: u64,
-    pub keys: u64,
-    pub content_type: u64,
-    pub header_iv_length: u64,
-    pub frame_length: u64,
-    pub suite_data: u64,
+    pub pair_count: u64,
+    pub key_count: u64,
+    pub suite_data_start: u64,
     pub suite_data_len: u64,
     pub tail: u64,
 }
@@ -68,18 +77,6 @@ pub struct HeaderPlace {
 pub struct HeaderWritten {
     pub number: u64,
     pub length: u64,
-}
-
-/// The numbers that a body writer is handed, each as wide as it is stored.
-#[repr(C)]
-#[derive(Clone, Copy, Debug, PartialEq, Eq)]
-pub struct HeaderNumbers {
-    pub version: u8,
-    pub message_type: u8,
-    pub suite: u16,
-    pub content_type: u8,
-    pub header_iv_length: u8,
-    pub frame_length: u32,
 }
 
 extern "C" {
@@ -125,7 +122,7 @@ extern "C" {
         m: *const u8,
         m_len: usize,
         start: u64,
-        suite: u16,
+        suite: u32,
     ) -> HeaderAuth;
 
     pub fn header_find_value(
@@ -169,7 +166,7 @@ extern "C" {
     ) -> HeaderWritten;
 
     pub fn header_write_header_auth_tag(
-        suite: u16,
+        suite: u32,
         iv: *const u8,
         iv_len: usize,
         tag: *const u8,

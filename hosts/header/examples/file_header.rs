@@ -34,7 +34,7 @@ fn draft() -> Draft {
             message_type: 0x80,
             suite: 0x0178,
             content_type: 2,
-            iv_length: 12,
+            header_iv_length: 12,
             frame_length: 4_096,
         },
         message_id: std::array::from_fn(|i| i as u8),
@@ -56,7 +56,7 @@ fn same(draft: &Draft, header: &[u8], body: &Body, pairs: &[u32], keys: &[u32]) 
         && body.numbers == draft.numbers
         && body.message_id.within(header) == Some(&draft.message_id)
         && body.suite_data.len == 0
-        && (4 * body.pairs, 6 * body.keys) == (draft.pairs.len(), draft.keys.len())
+        && (4 * body.pair_count, 6 * body.key_count) == (draft.pairs.len(), draft.keys.len())
         && same_parts(header, pairs, &draft.text, &draft.pairs)
         && same_parts(header, keys, &draft.text, &draft.keys)
 }

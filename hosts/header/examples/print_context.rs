@@ -18,7 +18,7 @@ fn main() -> Result<(), Box<dyn Error>> {
     let (mut pairs, mut keys) = (vec![0; PAIR_NUMBERS], vec![0; KEY_NUMBERS]);
     let body = read_header_body(&message, 0, Request::default(), &mut pairs, &mut keys)?;
 
-    let parts: Vec<Cow<str>> = places(&pairs[..4 * body.pairs])
+    let parts: Vec<Cow<str>> = places(&pairs[..4 * body.pair_count])
         .filter_map(|place| place.within(&message))
         .map(String::from_utf8_lossy)
         .collect();

@@ -13,7 +13,7 @@ pub struct AuthRecord {
 
 /// Reads the record of a suite at `start`.
 #[inline]
-pub fn read_header_auth_tag(message: &[u8], start: u64, suite: u16) -> Result<AuthRecord, Refusal> {
+pub fn read_header_auth_tag(message: &[u8], start: u64, suite: u32) -> Result<AuthRecord, Refusal> {
     // SAFETY: pointer and length are the slice's; it is only read.
     let record = unsafe {
         header_sys::header_read_header_auth_tag(message.as_ptr(), message.len(), start, suite)
@@ -30,7 +30,7 @@ pub fn read_header_auth_tag(message: &[u8], start: u64, suite: u16) -> Result<Au
 /// twelve bytes too, though it doesn't write it.
 #[inline]
 pub fn write_header_auth_tag(
-    suite: u16,
+    suite: u32,
     iv: &[u8],
     tag: &[u8],
     out: &mut [u8],

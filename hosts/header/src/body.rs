@@ -9,19 +9,10 @@ use crate::{Numbers, Place, Refusal, Request};
 pub struct Body {
     pub numbers: Numbers,
     pub message_id: Place,
-    pub pairs: usize,
-    pub keys: usize,
+    pub pair_count: usize,
+    pub key_count: usize,
     pub suite_data: Place,
     pub tail: u64,
-}
-
-/// Numbers cross as 64 bits, each read from a narrower field.
-#[inline]
-fn narrow<T: TryFrom<u64>>(number: u64) -> T {
-    match T::try_from(number) {
-        Ok(number) => number,
-        Err(_) => panic!("a field holds {number}"),
-    }
 }
 
 /// Reads the body at `start` and fills the tables with its pairs and keys.
@@ -53,22 +44,15 @@ pub fn read_header_body(
     };
     Refusal::test(record.number, record.position)?;
     Ok(Body {
-        numbers: Numbers {
-            version: narrow(record.version),
-            message_type: narrow(record.message_type),
-            suite: narrow(record.suite),
-            content_type: narrow(record.content_type),
-            iv_length: narrow(record.header_iv_length),
-            frame_length: narrow(record.frame_length),
-        },
+        numbers: record.numbers,
         message_id: Place {
-            start: record.message_id,
+            start: record.message_id_start,
             len: record.message_id_len,
         },
-        pairs: record.pairs as usize,
-        keys: record.keys as usize,
+        pair_count: record.pair_count as usize,
+        key_count: record.key_count as usize,
         suite_data: Place {
-            start: record.suite_data,
+            start: record.suite_data_start,
             len: record.suite_data_len,
         },
         tail: record.tail,

@@ -1,18 +1,11 @@
 //! Writing sections and bodies.
 
 use crate::Refusal;
-use header_sys::{HeaderNumbers, HeaderWritten};
+use header_sys::HeaderWritten;
 
-/// The fields of a body that are numbers, each as wide as it is stored.
-#[derive(Clone, Copy, Debug, Default, PartialEq, Eq, Hash)]
-pub struct Numbers {
-    pub version: u8,
-    pub message_type: u8,
-    pub suite: u16,
-    pub content_type: u8,
-    pub iv_length: u8,
-    pub frame_length: u32,
-}
+/// The fields of a body that are numbers, as the reader gives them. Each has 32
+/// bits, so that one that its field can't hold is refused and never cut.
+pub use header_sys::HeaderNumbers as Numbers;
 
 /// The length of what was written, which fits the output.
 #[inline]
@@ -71,14 +64,6 @@ pub fn write_header_body(
     keys: &[u32],
     out: &mut [u8],
 ) -> Result<usize, Refusal> {
-    let numbers = HeaderNumbers {
-        version: numbers.version,
-        message_type: numbers.message_type,
-        suite: numbers.suite,
-        content_type: numbers.content_type,
-        header_iv_length: numbers.iv_length,
-        frame_length: numbers.frame_length,
-    };
     // SAFETY: as for `write_aad_section`.
     length(unsafe {
         header_sys::header_write_header_body(

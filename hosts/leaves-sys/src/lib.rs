@@ -30,7 +30,7 @@ pub struct LeafPart {
 
 extern "C" {
     /// The version of the suite; 0 where there is none of that number.
-    pub fn leaf_suite_version(number: u16) -> u8;
+    pub fn leaf_suite_version(number: u32) -> u8;
 
     pub fn leaf_read_u8(m: *const u8, m_len: usize, start: u64) -> LeafNumber;
 

@@ -92,10 +92,10 @@ fn write(table: &mut Table, what: &str, fields: &Fields) {
         message_type: 0x80,
         suite: 0x0178,
         content_type: 2,
-        iv_length: 12,
+        header_iv_length: 12,
         frame_length: 4_096,
     };
-    let wide = reference::Numbers::from(fields.numbers());
+    let their_numbers = reference::Numbers::from(fields.numbers());
     let times = agreed(
         1,
         |_| {
@@ -107,7 +107,7 @@ fn write(table: &mut Table, what: &str, fields: &Fields) {
         |_| {
             let (lent, out) = (black_box(&lent), black_box(&mut theirs[..]));
             let (text, pairs, keys) = (&lent.text, &lent.pairs, &lent.keys);
-            reference::write_header_body(&wide, &fields.id, &[], text, pairs, keys, out)
+            reference::write_header_body(&their_numbers, &fields.id, &[], text, pairs, keys, out)
                 .unwrap_or(0)
         },
     );
