@@ -13,7 +13,7 @@ use Rattle.format.specs.Serialize.{Part, read}
 use Rattle.format.specs.Shared.{suite-version}
 use Rattle.format.specs.Auth.{HeaderAuth, zeros, read-header-auth-tag-of, read-header-auth-tag, header-auth-of}
 use Rattle.format.specs.Lent.{bytes-at}
-use Rattle.steps.specs.Places.{part-of}
+use Rattle.format.specs.Places.{part-of}
 use Rattle.steps.proofs.Tidy.{read-tidy}
 use Rattle.steps.proofs.Steps.{refused-is-none, go, stop, pass, fail, gives}
 use Rattle.steps.proofs.Numbers.{length-part, read-got, read-lacks}

@@ -17,7 +17,7 @@ use Rattle.format.specs.Lent.{place, filled, pair-table-after, key-table-after}
 use Rattle.steps.proofs.Operations.{operation-guarded, operation-reached}
 use Rattle.wire.specs.Codes.{because}
 use Rattle.wire.specs.declared.Refusal.{Refusal}
-use Rattle.entries.specs.Places.{entries-here, entries-end}
+use Rattle.format.specs.Places.{entries-here, entries-end}
 use Rattle.request.specs.Codes.{which-of, mode-of, max-of}
 use Rattle.request.specs.declared.Which.{Which}
 use Rattle.request.specs.declared.Mode.{Mode}

@@ -13,7 +13,7 @@ use Rattle.wire.specs.Codes.{because}
 use Rattle.wire.specs.declared.Refusal.{Refusal}
 use Rattle.request.specs.Codes.{mode-of}
 use Rattle.request.specs.declared.Mode.{Mode}
-use Rattle.entries.specs.Places.{pair-here, pair-end, pairs-end, entries-here, entries-end}
+use Rattle.format.specs.Places.{pair-here, pair-end, pairs-end, entries-here, entries-end}
 use Rattle.entries.specs.Codes.{Reads}
 use Rattle.entries.proofs.Items.{pairs-made}
 use Rattle.entries.proofs.Sections as any

@@ -5,7 +5,7 @@ use Prim.Native.Nat.{ℕ, suc, _+_, _≤_, _<_}
 use lib.ListN.{length}
 use Rattle.format.specs.Read.{at, repeat}
 use Rattle.format.specs.Context.{read-next-aad-pair}
-use Rattle.entries.specs.Places.{pair-here, pair-end, pairs-here, pairs-end}
+use Rattle.format.specs.Places.{pair-here, pair-end, pairs-here, pairs-end}
 use Rattle.entries.specs.Walk.{Walk}
 use Rattle.entries.specs.Codes.{next-of}
 use Rattle.entries.specs.declared.Next.{Next}

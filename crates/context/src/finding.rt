@@ -10,7 +10,7 @@ ghost use Prim.Native.Nat.{_+_, _≤_, _<_};
 ghost use lib.ListN.{length};
 ghost use Rattle.format.specs.Read.{at};
 ghost use Rattle.format.specs.Context.{find-value};
-ghost use Rattle.entries.specs.Places.{pairs-here, pairs-end};
+ghost use Rattle.format.specs.Places.{pairs-here, pairs-end};
 ghost use Rattle.context.specs.Codes.{found-of, found-in};
 
 // The value of the first of the `count` pairs from `first` on that has the key.

@@ -15,7 +15,7 @@ ghost use lib.ListN.{length};
 ghost use Rattle.format.specs.Read.{at, operation};
 ghost use Rattle.format.specs.Context.{read-aad-section-into, find-value as value-of};
 ghost use Rattle.format.specs.Lent.{pair-numbers, found-part};
-ghost use Rattle.steps.specs.Places.{part-of};
+ghost use Rattle.format.specs.Places.{part-of};
 ghost use Rattle.request.specs.Codes.{mode-of};
 ghost use Rattle.entries.specs.Codes.{Reads};
 ghost use Rattle.context.specs.Codes.{context-of, found-of, why-context, PartOf};

@@ -12,7 +12,7 @@ use lib.ListN.{length, getD}
 use Rattle.format.specs.Read.{Reader, accepted, at}
 use Rattle.format.specs.Serialize.{Part, number, read, read-uint, read-uint8, read-uint16}
 use Rattle.format.specs.Shared.{one-or-two, of-version, read-message-format-version, read-esdk-suite-id, read-content-type}
-use Rattle.steps.specs.Places.{part-of}
+use Rattle.format.specs.Places.{part-of}
 use Rattle.steps.proofs.Numbers.{read-got, uint16-got, uint16-known}
 use Rattle.steps.proofs.Numbers.{Number as Read}
 use Rattle.steps.proofs.Tidy.{read-tidy, uint8-tidy, uint16-tidy}

@@ -7,7 +7,7 @@ use native.Mathlib.Omega.{arith}
 use lib.ListN.{length}
 use Rattle.format.specs.Serialize.{Part, images}
 use Rattle.format.specs.Fields.{pair-places, key-places}
-use Rattle.entries.specs.Places.{items-here, items-end, entries-here, entries-end, pair-here, pair-end, key-here, key-end}
+use Rattle.format.specs.Places.{items-here, items-end, entries-here, entries-end, pair-here, pair-end, key-here, key-end}
 
 pub one-less : (n i : ℕ) → i < n → n - i ≡ suc (n - (i + 1))
 one-less n i h = omega arith

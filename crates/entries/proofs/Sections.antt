@@ -13,7 +13,7 @@ use Rattle.format.specs.Serialize.{Part, images}
 use Rattle.format.specs.Lent.{place, filled}
 use Rattle.steps.proofs.Tidy.{Tidy}
 use Rattle.steps.proofs.Steps.{refused-is-none, go, stop, pass, fail, gives}
-use Rattle.entries.specs.Places.{items-here, items-end, entries-here, entries-end}
+use Rattle.format.specs.Places.{items-here, items-end, entries-here, entries-end}
 use Rattle.entries.specs.Codes.{Reads}
 use Rattle.entries.proofs.Items.{Made, end-entries, here-entries}
 use Rattle.entries.proofs.Walk.{Kind, all-known, all-length}

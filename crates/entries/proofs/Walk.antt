@@ -10,7 +10,7 @@ use Rattle.format.specs.Read.{Reader, Answer, accepted, refused, repeat, at}
 use Rattle.steps.proofs.Tidy.{Tidy}
 use Rattle.steps.proofs.Steps.{un-return, un-repeat, all-read, one-more, one-stops}
 use Rattle.wire.specs.declared.Refusal.{Refusal}
-use Rattle.entries.specs.Places.{items-here, items-end}
+use Rattle.format.specs.Places.{items-here, items-end}
 use Rattle.entries.specs.Codes.{next-of}
 use Rattle.entries.specs.Walk.{Walk}
 use Rattle.entries.specs.declared.Next.{Next}

@@ -5,7 +5,7 @@ use Prim.Native.Nat.{ℕ, _+_, _≤_}
 use lib.ListN.{length}
 use Rattle.format.specs.Read.{Answer, accepted, refused}
 use Rattle.format.specs.Lent.{table-after}
-use Rattle.steps.specs.Places.{number16, entry-end}
+use Rattle.format.specs.Places.{number16, entry-end}
 use Rattle.wire.specs.Codes.{because}
 use Rattle.wire.specs.declared.Refusal.{Refusal}
 use Rattle.entries.specs.declared.Entry.{Entry}

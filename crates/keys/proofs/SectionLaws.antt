@@ -10,7 +10,7 @@ use Rattle.format.specs.Read.{accepted, at, repeat}
 use Rattle.format.specs.Serialize.{read-uint16, read-short-length-seq}
 use Rattle.format.specs.Context.{read-text}
 use Rattle.format.specs.Keys.{within, read-encrypted-data-key, read-encrypted-data-keys-section}
-use Rattle.steps.specs.Places.{number16}
+use Rattle.format.specs.Places.{number16}
 use Rattle.steps.proofs.Tidy.{uint16-tidy, entry-tidy, text-tidy}
 use Rattle.steps.proofs.Steps.{go, stop, pass, fail, gives}
 use Rattle.steps.proofs.Numbers.{uint16-known}

@@ -13,7 +13,7 @@ use Rattle.wire.specs.Codes.{because}
 use Rattle.wire.specs.declared.Refusal.{Refusal}
 use Rattle.request.specs.Codes.{max-of}
 use Rattle.request.specs.declared.Max.{Max}
-use Rattle.entries.specs.Places.{key-here, key-end, entries-here, entries-end}
+use Rattle.format.specs.Places.{key-here, key-end, entries-here, entries-end}
 use Rattle.entries.specs.Codes.{Reads}
 use Rattle.entries.proofs.Items.{keys-made}
 use Rattle.entries.proofs.Sections as any

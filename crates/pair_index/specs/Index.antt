@@ -8,8 +8,8 @@ use lib.ListN.{length}
 use Rattle.format.specs.Fields.{Pair, pair-of}
 use Rattle.format.specs.Context.{seen}
 use Rattle.format.specs.Lent.{bytes-at}
-use Rattle.steps.specs.Places.{number16, entry-end}
-use Rattle.entries.specs.Places.{pairs-here, pairs-end}
+use Rattle.format.specs.Places.{number16, entry-end}
+use Rattle.format.specs.Places.{pairs-here, pairs-end}
 use Rattle.index.specs.Index as ordered
 
 -- the key of the pair at a place

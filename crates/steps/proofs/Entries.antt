@@ -9,10 +9,11 @@ use Rattle.format.specs.Read.{accepted, refused, at}
 use Rattle.format.specs.Serialize.{Part, read, read-uint16, read-short-length-seq}
 use Rattle.format.specs.Utf8.{valid-utf8-seq}
 use Rattle.format.specs.Context.{read-text}
-use Rattle.steps.specs.Places.{number16, entry-here, entry-end}
+use Rattle.format.specs.Places.{number16, entry-here, entry-end}
+use Rattle.format.proofs.First.{is-number16}
 use Rattle.steps.proofs.Tidy.{uint16-tidy, entry-tidy}
 use Rattle.steps.proofs.Steps.{go, stop, pass, fail, gives, un-bind, un-test, un-return}
-use Rattle.steps.proofs.Numbers.{There, read-got, read-no, read-known, is-number16, uint16-got, uint16-no, uint16-known}
+use Rattle.steps.proofs.Numbers.{There, read-got, read-no, read-known, uint16-got, uint16-no, uint16-known}
 
 module _ (m : List ℕ) (s : ℕ) where
   pub entry-after : (n t : ℕ) → at read-uint16 m s ≡ accepted n t → at read-short-length-seq m s ≡ at (read n) m t

@@ -11,7 +11,8 @@ use Rattle.format.specs.Read.{accepted, refused, at}
 use Rattle.format.specs.Serialize.{Part, read, read-uint, read-uint8, read-uint16, read-uint32}
 use Rattle.format.proofs.Tests.{is-leb, is-nleb}
 use Rattle.format.proofs.Serialize.{read-fits, read-short}
-use Rattle.steps.specs.Places.{number-here, number8, number16, number32, part-of}
+use Rattle.format.proofs.First.{is-number8, is-number16, is-number32}
+use Rattle.format.specs.Places.{number-here, number8, number16, number32, part-of}
 use Rattle.steps.proofs.Tidy.{read-tidy}
 use Rattle.steps.proofs.Steps.{refused-is-none, go, stop, gives}
 
@@ -69,33 +70,17 @@ module _ (width : ℕ) (m : List ℕ) (s : ℕ) where
 
 -- the numbers at the three widths, byte by byte
 module _ (m : List ℕ) (s : ℕ) where
-  pub is-number8 : s + 1 ≤ length m → number-here 1 m s ≡ number8 m s
-  is-number8 h = rw (drop-cons m s 0 (omega arith)) (omega arith)
-
-  pub is-number16 : s + 2 ≤ length m → number-here 2 m s ≡ number16 m s
-  is-number16 h =
-      let e : s + 1 ≡ suc s = omega arith in
-      rw (e, drop-cons m s 0 (omega arith), drop-cons m (suc s) 0 (omega arith)) (omega arith)
-
-  pub is-number32 : s + 4 ≤ length m → number-here 4 m s ≡ number32 m s
-  is-number32 h =
-      let p : s + 1 ≡ suc s = omega arith in
-      let q : s + 2 ≡ suc (suc s) = omega arith in
-      let r : suc (suc s) + 1 ≡ suc (suc (suc s)) = omega arith in
-      rw (q, p, r, drop-cons m s 0 (omega arith), drop-cons m (suc s) 0 (omega arith), drop-cons m (suc (suc s)) 0 (omega arith), drop-cons m (suc (suc (suc s))) 0 (omega arith))
-      (omega arith)
-
   pub uint8-got : s + 1 ≤ length m → at read-uint8 m s ≡ accepted (number8 m s) (s + 1)
   unfolding read-uint8
-  uint8-got h = uint-got 1 m s h ∙ ap (λ v. accepted v (s + 1)) (is-number8 h)
+  uint8-got h = uint-got 1 m s h ∙ ap (λ v. accepted v (s + 1)) (is-number8 m s h)
 
   pub uint16-got : s + 2 ≤ length m → at read-uint16 m s ≡ accepted (number16 m s) (s + 2)
   unfolding read-uint16
-  uint16-got h = uint-got 2 m s h ∙ ap (λ v. accepted v (s + 2)) (is-number16 h)
+  uint16-got h = uint-got 2 m s h ∙ ap (λ v. accepted v (s + 2)) (is-number16 m s h)
 
   pub uint32-got : s + 4 ≤ length m → at read-uint32 m s ≡ accepted (number32 m s) (s + 4)
   unfolding read-uint32
-  uint32-got h = uint-got 4 m s h ∙ ap (λ v. accepted v (s + 4)) (is-number32 h)
+  uint32-got h = uint-got 4 m s h ∙ ap (λ v. accepted v (s + 4)) (is-number32 m s h)
 
   pub uint8-no : length m < s + 1 → at read-uint8 m s ≡ refused 2 (s + 1)
   unfolding read-uint8

@@ -10,7 +10,7 @@ use borrow.Author.Tests.{le-leb, lt-leb, leb-true, leb-false}
 use Rattle.format.specs.Read.{accepted, refused, at, addressable}
 use Rattle.format.specs.Serialize.{read, read-at, read-operation, read-uint16, read-short-length-seq}
 use Rattle.format.proofs.Pinned.{pinned}
-use Rattle.steps.specs.Places.{part-of}
+use Rattle.format.specs.Places.{part-of}
 use Rattle.steps.proofs.Operations.{too-long}
 use Rattle.steps.proofs.Numbers.{length-part, uint16-known}
 use Rattle.steps.proofs.Entries.{entry-after, entry-stops}

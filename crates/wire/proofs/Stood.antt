@@ -9,7 +9,7 @@ use Rattle.format.specs.Read.{Answer, accepted, at}
 use Rattle.format.specs.Serialize.{Part, read, read-uint8, read-uint16, read-uint32, read-short-length-seq}
 use Rattle.format.specs.Utf8.{valid-utf8-seq}
 use Rattle.format.specs.Context.{read-text}
-use Rattle.steps.specs.Places.{number16, part-of}
+use Rattle.format.specs.Places.{number16, part-of}
 use Rattle.steps.proofs.Numbers.{There, length-part, read-known, uint8-known, uint16-known, uint32-known}
 use Rattle.steps.proofs.Entries.{entry-known, text-known, text-good, text-bad, text-stops}
 use Rattle.wire.specs.Codes.{because, number-of, span-of}

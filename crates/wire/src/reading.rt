@@ -10,7 +10,7 @@ ghost use lib.ListN.{length};
 ghost use Rattle.format.specs.Read.{at, addressable};
 ghost use Rattle.format.specs.Serialize.{read, read-at, read-uint8, read-uint16, read-uint32, read-short-length-seq};
 ghost use Rattle.format.specs.Context.{read-text};
-ghost use Rattle.steps.specs.Places.{number8, number16, number32};
+ghost use Rattle.format.specs.Places.{number8, number16, number32};
 ghost use Rattle.wire.specs.Codes.{number-of, span-of, Below};
 
 // Refusal 1: both have to be at most 4,294,967,295.

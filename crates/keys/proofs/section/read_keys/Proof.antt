@@ -1,5 +1,5 @@
 use Prim.Native.Nat.{_-_}
-use Rattle.entries.specs.Places.{key-here, key-end}
+use Rattle.format.specs.Places.{key-here, key-end}
 use Rattle.keys.specs.Codes.{any-key}
 use Rattle.entries.specs.Walk.{Walk}
 use Rattle.entries.proofs.Walk.{walk-start, walk-near, walk-end, walk-stop, walk-more}
