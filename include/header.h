@@ -81,6 +81,13 @@ typedef struct HeaderPlace {
     uint64_t len;
 } HeaderPlace;
 
+/* A value that was copied. 24 bytes. */
+typedef struct HeaderCopied {
+    uint64_t number;
+    uint64_t position;
+    uint64_t length; /* how many bytes, from the first byte of the output on */
+} HeaderCopied;
+
 /* An authentication record that was read. 56 bytes. */
 typedef struct HeaderAuth {
     uint64_t number;
@@ -156,6 +163,13 @@ HeaderSection header_read_encrypted_data_keys_section(const uint8_t *message, si
 
 /* Finds the value of a key in the context section at `start`, read tolerantly. Changes nothing. */
 HeaderPlace header_find_value(const uint8_t *message, size_t message_len, uint64_t start, const uint8_t *key, size_t key_len);
+
+/*
+ * Copies the value that header_find_value finds to `out`, from its first byte on; the bytes behind it keep. Refuses as
+ * header_find_value does, and then with HEADER_OUTPUT_TOO_SHORT; a refusal changes nothing. `out` lies apart from what is read.
+ */
+HeaderCopied header_copy_value(const uint8_t *message, size_t message_len, uint64_t start, const uint8_t *key, size_t key_len,
+                               uint8_t *out, size_t out_len);
 
 /* Reads the authentication record of a suite at `start`. Changes nothing. */
 HeaderAuth header_read_header_auth_tag(const uint8_t *message, size_t message_len, uint64_t start, uint32_t suite);

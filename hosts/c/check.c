@@ -126,6 +126,13 @@ static void sections(void)
     same("a key section cut", s.position, 42);
 }
 
+static void copied_is(const char *what, HeaderCopied c, uint64_t number, uint64_t position, uint64_t length)
+{
+    same(what, c.number, number);
+    same(what, c.position, position);
+    same(what, c.length, length);
+}
+
 static void find(void)
 {
     static const struct {
@@ -141,6 +148,16 @@ static void find(void)
         same(rows[i].key, p.start, rows[i].start);
         same(rows[i].key, p.len, rows[i].len);
     }
+    for (i = 0; i < COUNT(rows); i++) {
+        fresh();
+        copied_is(rows[i].key, header_copy_value(H, 58, 20, (const uint8_t *)rows[i].key, strlen(rows[i].key), out, BYTES),
+                  rows[i].number, 0, rows[i].len);
+        output_is(rows[i].key, H + rows[i].start, rows[i].len);
+    }
+    fresh();
+    copied_is("a value into 1 byte", header_copy_value(H, 58, 20, (const uint8_t *)"lang", 4, out, 1), HEADER_OUTPUT_TOO_SHORT, 0, 0);
+    output_is("a value into 1 byte", fresh_bytes, 0);
+    copied_is("a copy of a section cut", header_copy_value(H, 30, 20, H, 0, out, BYTES), HEADER_SHORTAGE, 34, 0);
     p = header_find_value(H, 30, 20, H, 0);
     same("a section cut", p.number, HEADER_SHORTAGE);
     same("a section cut", p.position, 34);

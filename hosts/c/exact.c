@@ -66,6 +66,8 @@ static void read_parts(const uint8_t *m, size_t n, uint64_t start, size_t np, si
     uint32_t *p, *k;
     HeaderSection s, t;
     HeaderPlace f, g;
+    HeaderCopied c, d;
+    uint8_t *v;
     HeaderAuth a, b;
     fresh();
     p = lend(pairs, np * sizeof *p);
@@ -81,6 +83,11 @@ static void read_parts(const uint8_t *m, size_t n, uint64_t start, size_t np, si
     f = header_find_value(message, n, start, key, 2);
     g = header_find_value(m, n, start, (const uint8_t *)"ab", 2);
     same_bytes("a value", &f, &g, sizeof f);
+    v = lend(out, f.len);
+    c = header_copy_value(message, n, start, key, 2, v, f.len);
+    d = header_copy_value(m, n, start, (const uint8_t *)"ab", 2, out, BYTES);
+    same_bytes("a copy", &c, &d, sizeof c);
+    same_bytes("its bytes", v, out, f.len);
     a = header_read_header_auth_tag(message, n, start, 0x0178);
     b = header_read_header_auth_tag(m, n, start, 0x0178);
     same("a record", a.number, b.number);

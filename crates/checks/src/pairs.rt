@@ -94,7 +94,11 @@ fn check_each_pair(text: &[u8], table: &[u32]) -> Checked
     requires { ⌜ (every (in-text (now text) (now table)) (places (now table)) ≡ true) × (length (now table) / 4 ≤ 65535) ⌝ }
     ensures { λ r. ⌜ r ≡ checked (first (each pair-checks [] (pairs-in (now (text .entry)) (now (table .entry))))) ⌝ }
 {
+    let n = table.len() / 4;
     let mut keys = [0u16; 32];
+    if n <= 32 {
+        return check_up_to(text, table, 0, n, &mut keys[..]);
+    }
     check_from(text, table, 0, &mut keys[..])
 }
 

@@ -129,6 +129,10 @@ pub(crate) fn read_pairs(m: &[u8], first: u64, count: u64) -> Next
     requires { ⌜ (first ≤ length (now m)) × (length (now m) < 4294967296) ⌝ }
     ensures { λ r. ⌜ r ≡ next-of (at (repeat count read-next-aad-pair []) (now (m .entry)) first) ⌝ }
 {
+    let n = count as usize;
     let mut keys = [0u16; 32];
-    pairs_from(m, first, count as usize, 0, first, &mut keys[..])
+    if n <= 32 {
+        return pairs_up_to(m, first, n, 0, n, first, &mut keys[..]);
+    }
+    pairs_from(m, first, n, 0, first, &mut keys[..])
 }

@@ -2,7 +2,7 @@
 
 use crate::guarded::Guarded;
 use crate::numbers::{self, auth, body, place, refused, section, Answer};
-use header::{AuthRecord, Body, Mode, Place, Request, Section};
+use header::{AuthRecord, Body, Mode, Place, Refusal, Request, Section};
 use std::fmt::Debug;
 
 /// A message and a start as a failure shows them.
@@ -116,8 +116,8 @@ pub fn read_header_auth_tag(message: &[u8], start: u64, suite: u32) -> Answer<Au
     answer
 }
 
-/// A value's place, and what its companion returns: the same part, at the
-/// same place in memory.
+/// A value's place; what its companion returns: the same part, at the same
+/// place in memory; and its copy.
 pub fn find_value(message: &[u8], start: u64, key: &[u8]) -> Answer<Place> {
     let answer = header::find_value(message, start, key);
     let wanted = reference::find(message, start, key)
@@ -131,7 +131,39 @@ pub fn find_value(message: &[u8], start: u64, key: &[u8]) -> Answer<Place> {
         "{key:?}: {ours:?} against {theirs:?}, {}",
         shown(message, start)
     );
+    copy_value(message, start, key);
     answer
+}
+
+/// A value's copy, into outputs that hold it and outputs that don't.
+fn copy_value(message: &[u8], start: u64, key: &[u8]) {
+    let found = reference::find(message, start, key).map_err(refused);
+    let value = reference::find_part(message, start, key);
+    for room in [
+        0,
+        value.len().saturating_sub(1),
+        value.len(),
+        value.len() + 3,
+    ] {
+        let before: Vec<u8> = (0..room).map(|i| !(i as u8)).collect();
+        let wanted = match found {
+            Err(refusal) => Err(refusal),
+            Ok(_) if room < value.len() => Err(Refusal {
+                number: 28,
+                position: 0,
+            }),
+            Ok(_) => Ok(value.len()),
+        };
+        let mut after = before.clone();
+        let answer = header::copy_value(message, start, key, &mut after);
+        same(&answer, &wanted, key, message, start);
+        let copied = wanted.unwrap_or(0);
+        assert!(
+            after[..copied] == value[..copied] && after[copied..] == before[copied..],
+            "{key:?}: a copy into {room} bytes, {}",
+            shown(message, start)
+        );
+    }
 }
 
 /// The number and the position that a host is told, a call each.

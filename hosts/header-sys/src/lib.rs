@@ -70,6 +70,16 @@ pub struct HeaderPlace {
     pub len: u64,
 }
 
+/// A value that was copied: how many bytes from the output's first on; 0 on a
+/// refusal.
+#[repr(C)]
+#[derive(Clone, Copy, Debug, PartialEq, Eq)]
+pub struct HeaderCopied {
+    pub number: u64,
+    pub position: u64,
+    pub length: u64,
+}
+
 /// What a writer wrote: how many bytes from the output's first on; 0 on a
 /// refusal.
 #[repr(C)]
@@ -132,6 +142,17 @@ extern "C" {
         key: *const u8,
         key_len: usize,
     ) -> HeaderPlace;
+
+    /// Copies the value that `header_find_value` finds.
+    pub fn header_copy_value(
+        m: *const u8,
+        m_len: usize,
+        start: u64,
+        key: *const u8,
+        key_len: usize,
+        out: *mut u8,
+        out_len: usize,
+    ) -> HeaderCopied;
 
     /// 0 where the header at the start is accepted, else the refusal's number.
     pub fn header_number(m: *const u8, m_len: usize, start: u64) -> u32;

@@ -1,4 +1,4 @@
-//! Finding a value in a context section.
+//! Finding a value in a context section, and copying it.
 
 use crate::{Place, Refusal};
 
@@ -31,4 +31,32 @@ pub fn find_part<'a>(message: &'a [u8], start: u64, key: &[u8]) -> &'a [u8] {
         .ok()
         .and_then(|place| place.within(message))
         .unwrap_or(&message[..0])
+}
+
+/// Copies the value that [`find_value`] finds to the front of `out`, and gives
+/// its length. Refused as there, and by 28 where the value is longer than
+/// `out`; a refusal leaves `out` as it was.
+#[inline]
+pub fn copy_value(
+    message: &[u8],
+    start: u64,
+    key: &[u8],
+    out: &mut [u8],
+) -> Result<usize, Refusal> {
+    // SAFETY: pointers and lengths are the slices'; `out` is lent alone, and
+    // the others are only read.
+    let record = unsafe {
+        header_sys::header_copy_value(
+            message.as_ptr(),
+            message.len(),
+            start,
+            key.as_ptr(),
+            key.len(),
+            out.as_mut_ptr(),
+            out.len(),
+        )
+    };
+    Refusal::test(record.number, record.position)?;
+    // At most `out.len()`.
+    Ok(record.length as usize)
 }

@@ -33,7 +33,7 @@ mod writes;
 
 pub use auth::{read_header_auth_tag, write_header_auth_tag, AuthRecord};
 pub use body::{read_header_body, Body};
-pub use finding::{find_part, find_value};
+pub use finding::{copy_value, find_part, find_value};
 pub use host::{header_number, header_position, write_listing};
 pub use place::{places, Place};
 pub use refusal::Refusal;
