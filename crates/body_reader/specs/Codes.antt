@@ -69,7 +69,7 @@ pub record ReadsBody (o : Answer BodyRead) (pairs pairs′ keys keys′ : List �
   pub keyTable : keys′ ≡ key-table-after o keys
 
 -- a body's ends and counts, put together
-abbrev pub numbers-with : Opening → Closing → BodyNumbers
+abbrev numbers-with : Opening → Closing → BodyNumbers
 numbers-with o c =
     record {
       version = o .version;

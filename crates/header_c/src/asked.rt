@@ -7,7 +7,7 @@ ghost use mathlib.Core.Path.{_≡_};
 ghost use Rattle.header_c.specs.Asked.{which-asked, mode-asked, max-asked, request-asked};
 
 // 0: either version; 1: version 1 only; any other: version 2 only.
-pub fn which_asked(which: u8) -> Which
+fn which_asked(which: u8) -> Which
     ensures { λ r. ⌜ r ≡ which-asked which ⌝ }
 {
     if which == 0 {
@@ -20,7 +20,7 @@ pub fn which_asked(which: u8) -> Which
 }
 
 // 0: tolerant; any other: strict, the stricter reading for a number that names no mode.
-pub fn mode_asked(mode: u8) -> Mode
+fn mode_asked(mode: u8) -> Mode
     ensures { λ r. ⌜ r ≡ mode-asked mode ⌝ }
 {
     if mode == 0 {
@@ -30,7 +30,7 @@ pub fn mode_asked(mode: u8) -> Mode
 }
 
 // 0: no maximum; any other: at most `max` keys.
-pub fn max_asked(hasMax: u8, max: u64) -> Max
+fn max_asked(hasMax: u8, max: u64) -> Max
     ensures { λ r. ⌜ r ≡ max-asked hasMax max ⌝ }
 {
     if hasMax == 0 {

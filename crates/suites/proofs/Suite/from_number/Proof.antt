@@ -1,7 +1,7 @@
 -- `Suite::from_number`: the version in the rows that are left is the version in the table. The code's table is the definition's,
 -- which is computed where `suites` unfolds. Assumes nothing.
 use Prim.Native.Nat.{_-_, _≤_}
-use mathlib.Core.Path.{_≡_, _∙_, refl, sym}
+use mathlib.Core.Path.{_≡_, _∙_, refl}
 use lib.ListN.{drop}
 use native.Mathlib.Omega.{arith}
 use borrow.Author.Needs.{needs}
