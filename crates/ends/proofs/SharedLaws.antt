@@ -21,6 +21,7 @@ use Rattle.suites.specs.Table.{suite-of}
 use Rattle.suites.specs.declared.Suite.{Suite}
 use Rattle.suites.specs.declared.SuiteAnswer.{SuiteAnswer}
 use Rattle.suites.specs.declared.SuiteAnswer.the-variants.{Known, Unknown}
+use Rattle.suites.proofs.Find.{fits}
 use Rattle.suites.proofs.Answers.{unknown, suite-is, its-version, in-table}
 use Rattle.wire.specs.Codes.{because, number-of, span-of, why-span, Below}
 use Rattle.wire.specs.declared.Refusal.{Refusal}
@@ -38,17 +39,17 @@ number-near r m s x is v t b h w = let y = w .ends m s v t (number-got (at r m s
 
 -- a number that was read has 32 bits
 module _ (x : Number) (v t : ℕ) (b : x ≡ number.Is v t) where
-  fits : (n : ℕ) → n ≤ 4294967296 → Below n x → Fits w32 v
-  fits n l h = let y = below-is n x h v t b in omega arith
+  below-fits : (n : ℕ) → n ≤ 4294967296 → Below n x → Fits w32 v
+  below-fits n l h = let y = below-is n x h v t b in omega arith
 
   pub uint8-fits : Below 256 x → Fits w32 v
-  uint8-fits = fits 256 (omega arith)
+  uint8-fits = below-fits 256 (omega arith)
 
   pub uint16-fits : Below 65536 x → Fits w32 v
-  uint16-fits = fits 65536 (omega arith)
+  uint16-fits = below-fits 65536 (omega arith)
 
   pub uint32-fits : Below 4294967296 x → Fits w32 v
-  uint32-fits = fits 4294967296 (omega arith)
+  uint32-fits = below-fits 4294967296 (omega arith)
 
 -- 01 or 02
 module _ (k : ℕ) (m : List ℕ) (s : ℕ) (x : Number) (is : x ≡ number-of (at read-uint8 m s)) where
@@ -109,6 +110,9 @@ module _ (version : ℕ) (m : List ℕ) (s : ℕ) (x : Span) (is : x ≡ span-of
       suite-6 e w f = rw (f, go _ uint16-tidy m s _ t uint16-is, fail 6 _ _ m t (unknown _ y y-is e))
 
       module _ (k : Suite) (e : y ≡ Known k) where
+        pub suite-small : k .number < 65536
+        suite-small = rw (suite-is _ y y-is k e .number) (fits _ (in-table _ y y-is k e))
+
         by-version : (v : Bool) → eqb (k .version) version ≡ v → of-version version (getD m i 0 * 256 + getD m (i + 1) 0) ≡ v
         by-version v j = ap (λ (z : ℕ). eqb z version) (sym (its-version _ y y-is k e)) ∙ j
 

@@ -55,16 +55,16 @@ every-at f (r ∷ t) e zero h = both (f r) (every f t) e .0
 every-at f (r ∷ t) e (suc i) h = every-at f t (both (f r) (every f t) e .1) i (le-of-suc-le-suc h)
 
 -- a suite by its version, and so by its row
-known-as : (n k v : ℕ) → k ≡ n → v ≡ suite-version n → eqb v 0 ≡ false → Known (record { number = k; version = v }) ≡ suite-of n
-known-as n k v e is some = rw e (sym (ap (by-version n) (sym is) ∙ rw some))
+known-as : (n v : ℕ) → v ≡ suite-version n → eqb v 0 ≡ false → Known (record { number = n; version = v }) ≡ suite-of n
+known-as n v is some = sym (ap (by-version n) (sym is) ∙ rw some)
 
 pub known-at : (n i : ℕ) → i < length suites → version-in (drop i suites) n ≡ suite-version n → getD (map row-of suites) i (row-of (row 0 0)) .number ≡ n
-    → Known (record { number = getD (map row-of suites) i (row-of (row 0 0)) .number; version = getD (map row-of suites) i (row-of (row 0 0)) .version }) ≡ suite-of n
+    → Known (record { number = n; version = getD (map row-of suites) i (row-of (row 0 0)) .version }) ≡ suite-of n
 unfolding is-row
 known-at n i h left e =
     let r = getD suites i (row 0 0) in
     let some = both (not (eqb (r .version) 0)) (ltb (r .number) 65536) (every-at is-row suites all-rows i h) .0 in
-    known-as n _ _ e (sym (hit suites n i h e) ∙ left) (not-true _ (ap (λ (x : Row). not (eqb (x .version) 0)) (List·getD-map row-of suites i (row 0 0)) ∙ some))
+    known-as n _ (sym (hit suites n i h e) ∙ left) (not-true _ (ap (λ (x : Row). not (eqb (x .version) 0)) (List·getD-map row-of suites i (row 0 0)) ∙ some))
 
 pub unknown-at : (n i : ℕ) → length suites ≤ i → version-in (drop i suites) n ≡ suite-version n → Unknown ≡ suite-of n
 unknown-at n i h left = sym (ap (by-version n) (sym left ∙ none suites n i h))

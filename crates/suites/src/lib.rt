@@ -4,7 +4,7 @@ ghost use Prim.Native.Nat.{_+_, _*_};
 ghost use Rattle.suites.specs.Table.{suite-of};
 
 struct SuiteRow {
-    number: u16,
+    number: u32,
     version: u8,
 }
 
@@ -58,7 +58,7 @@ const SUITES: [SuiteRow; 11] = [
 
 // A suite of the table.
 pub struct Suite {
-    pub number: u16,
+    pub number: u32,
     pub version: u8,
 }
 
@@ -82,11 +82,9 @@ impl Suite {
         let mut i: usize = 0;
         while i < 11 {
             let row = SUITES[i];
-            if row.number as u32 == number {
-                return SuiteAnswer::Known(Suite {
-                    number: row.number,
-                    version: row.version,
-                });
+            if row.number == number {
+                let version = row.version;
+                return SuiteAnswer::Known(Suite { number, version });
             }
             i += 1;
         }
