@@ -18,7 +18,7 @@ use Rattle.checks.specs.declared.Checked.{Checked}
 use Rattle.checks.specs.declared.Checked.the-variants.{Passes, Fails}
 use Rattle.checks.proofs.Stages.{stage-passes, stage-fails, front, back}
 use Rattle.checks.proofs.SectionChecks.{pairs-passed, pairs-few, keys-passed}
-use Rattle.suites.proofs.Find.{fits}
+use Rattle.format.proofs.Accepts.{known-narrow}
 use Rattle.body_write.specs.Lent.{body-to-write}
 use Rattle.body_write.specs.Ready.{Small}
 use Rattle.fields.specs.declared.BodyNumbers.{BodyNumbers}
@@ -87,7 +87,7 @@ module _ (n : BodyNumbers) (messageId suiteData text pairs keys : List ℕ) wher
     type-small = by-small (eqb (n .version) 1) 128 0 _ (eqb-true _ _ (holds opens opened .1 .0)) (omega arith) (omega arith)
 
     pub suite-small : n .suite < 65536
-    suite-small = fits (n .suite) (holds opens opened .1 .1 .0)
+    suite-small = known-narrow (n .suite) (holds opens opened .1 .1 .0)
 
     pub content-small : n .contentType < 256
     content-small = one-or-two-small _ (holds closes closed .0)

@@ -4,5 +4,4 @@ pub mod Loops
 pub mod Parts
 pub mod SectionChecks
 pub mod Writers
-pub mod Suites
 pub mod SeenLaws

@@ -21,7 +21,7 @@ use Rattle.suites.specs.Table.{suite-of}
 use Rattle.suites.specs.declared.Suite.{Suite}
 use Rattle.suites.specs.declared.SuiteAnswer.{SuiteAnswer}
 use Rattle.suites.specs.declared.SuiteAnswer.the-variants.{Known, Unknown}
-use Rattle.suites.proofs.Find.{fits}
+use Rattle.format.proofs.Accepts.{known-narrow}
 use Rattle.suites.proofs.Answers.{unknown, suite-is, its-version, in-table}
 use Rattle.wire.specs.Codes.{because, number-of, span-of, why-span, Below}
 use Rattle.wire.specs.declared.Refusal.{Refusal}
@@ -111,7 +111,7 @@ module _ (version : ℕ) (m : List ℕ) (s : ℕ) (x : Span) (is : x ≡ span-of
 
       module _ (k : Suite) (e : y ≡ Known k) where
         pub suite-small : k .number < 65536
-        suite-small = rw (suite-is _ y y-is k e .number) (fits _ (in-table _ y y-is k e))
+        suite-small = rw (suite-is _ y y-is k e .number) (known-narrow _ (in-table _ y y-is k e))
 
         by-version : (v : Bool) → eqb (k .version) version ≡ v → of-version version (getD m i 0 * 256 + getD m (i + 1) 0) ≡ v
         by-version v j = ap (λ (z : ℕ). eqb z version) (sym (its-version _ y y-is k e)) ∙ j

@@ -85,7 +85,7 @@ in-table (r ∷ rows) (k, h) x e = go (eqb (r .number) x) refl e (in-table rows 
     go true q e f = let z : r .number ≡ x = is-eqb (r .number) x q in omega arith
     go false q e f = f e
 
-known-narrow : (x : ℕ) → known x ≡ true → x < 65536
+pub known-narrow : (x : ℕ) → known x ≡ true → x < 65536
 unfolding suites
 known-narrow x e = in-table suites (omega arith) x e
 

@@ -1,18 +1,17 @@
 -- Looking a number up, row by row, for any table; and the rule over the whole table of suites. Assumes nothing.
 use mathlib.Core.Path.{_≡_, refl, sym, ap, _∙_}
-use mathlib.Core.Bool.{Bool, true, false, not, _&&_}
+use mathlib.Core.Bool.{Bool, true, false, not}
 use mathlib.Core.List.{List, [], _∷_, map}
 use Prim.Native.Nat.{ℕ, zero, suc, _+_, _<_, _≤_}
 use native.Mathlib.Nat.{not-suc-le-zero, le-of-suc-le-suc}
 use native.Mathlib.Numerals.{add-one}
 use lib.ListN.{length, drop, getD, drop-of-length-le, List·getD-map}
-use lib.Dec.{eqb, ltb}
+use lib.Dec.{eqb}
 use lib.Seq.{drop-cons}
-use borrow.Author.Tests.{eq-eqb, ne-eqb, ltb-true, not-true}
+use borrow.Author.Tests.{eq-eqb, ne-eqb, not-true}
 use Rattle.format.specs.Serialize.{every}
-use Rattle.format.specs.Shared.{SuiteRow, row, suites, version-in, suite-version, known}
+use Rattle.format.specs.Shared.{SuiteRow, row, suites, version-in, suite-version}
 use Rattle.format.proofs.Firsts.{both}
-use Rattle.format.proofs.Suites.{every-member, in-a-row}
 use Rattle.suites.specs.declared.SuiteRow.{SuiteRow as Row}
 use Rattle.suites.specs.declared.SuiteAnswer.the-variants.{Known, Unknown}
 use Rattle.suites.specs.Table.{row-of, by-version, suite-of}
@@ -36,17 +35,13 @@ pub none : (t : List SuiteRow) (n i : ℕ) → length t ≤ i → version-in (dr
 unfolding version-in
 none t n i h = rw (drop-of-length-le t h)
 
--- every row has a version, so that 0 says that there is none; and a number of 16 bits
+-- every row has a version, so that 0 says that there is none
 is-row : SuiteRow → Bool
-is-row r = not (eqb (r .version) 0) && ltb (r .number) 65536
+is-row r = not (eqb (r .version) 0)
 
 all-rows : every is-row suites ≡ true
 unfolding every is-row suites
 all-rows = refl
-
-pub fits : (n : ℕ) → known n ≡ true → n < 65536
-unfolding is-row
-fits n e = ltb-true _ _ (both (not (eqb (suite-version n) 0)) (ltb n 65536) (every-member is-row suites all-rows (row n (suite-version n)) (in-a-row n e)) .1)
 
 every-at : (f : SuiteRow → Bool) (t : List SuiteRow) → every f t ≡ true → (i : ℕ) → i < length t → f (getD t i (row 0 0)) ≡ true
 unfolding every
@@ -62,8 +57,7 @@ pub known-at : (n i : ℕ) → i < length suites → version-in (drop i suites) 
     → Known (record { number = n; version = getD (map row-of suites) i (row-of (row 0 0)) .version }) ≡ suite-of n
 unfolding is-row
 known-at n i h left e =
-    let r = getD suites i (row 0 0) in
-    let some = both (not (eqb (r .version) 0)) (ltb (r .number) 65536) (every-at is-row suites all-rows i h) .0 in
+    let some = every-at is-row suites all-rows i h in
     known-as n _ (sym (hit suites n i h e) ∙ left) (not-true _ (ap (λ (x : Row). not (eqb (x .version) 0)) (List·getD-map row-of suites i (row 0 0)) ∙ some))
 
 pub unknown-at : (n i : ℕ) → length suites ≤ i → version-in (drop i suites) n ≡ suite-version n → Unknown ≡ suite-of n
