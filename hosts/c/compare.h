@@ -84,4 +84,22 @@ static inline void written_is(const char *what, HeaderWritten w, uint64_t number
     same(what, w.length, length);
 }
 
+static inline void body_is(const char *what, HeaderBody b, const uint64_t *want)
+{
+    const HeaderNumbers n = b.numbers;
+    const uint64_t got[15] = {b.number, b.position, n.version, n.messageType, n.suite, n.contentType, n.headerIvLength, n.frameLength,
+                              b.messageIdStart, b.messageIdLen, b.pairCount, b.keyCount, b.suiteDataStart, b.suiteDataLen, b.tail};
+    size_t i;
+    for (i = 0; i < 15; i++) {
+        same(what, got[i], want[i]);
+    }
+}
+
+/* how many cases were compared; the exit status */
+static inline int compared(void)
+{
+    printf("compared %lu cases\n", cases);
+    return differences == 0 ? 0 : 1;
+}
+
 #endif
