@@ -8,10 +8,10 @@
  * with anything else that the same call is lent. Nothing is kept after a call, and nothing is allocated. Calls share no state, so
  * that several threads may call at once.
  *
- * What is answered. Every answer is a struct by value. Its `number` is 0 where the input was accepted; otherwise it is the
- * refusal, one of `enum HeaderRefusal`, and everything else in the struct is 0 but for `position`, which is the place wanted for
- * HEADER_SHORTAGE. On a refusal every lent byte and number is as it was. No input is outside what a function takes: each call
- * on parts lent as above returns, with exactly one answer.
+ * What is answered. Every answer is a struct by value, but for the bare numbers of header_number and header_position. Its `number`
+ * is 0 where the input was accepted; otherwise it is the refusal, one of `enum HeaderRefusal`, and everything else in the struct is
+ * 0 but for `position`, which is the place wanted for HEADER_SHORTAGE. On a refusal every lent byte and number is as it was. No input
+ * is outside what a function takes: each call on parts lent as above returns, with exactly one answer.
  *
  * Places are counted from the first byte of the message or text. `tail` is the place of the first byte behind what was read.
  * Names are those of the AWS Encryption SDK's message format.
@@ -46,7 +46,7 @@ enum HeaderRefusal {
     HEADER_PROVIDER_ID_NOT_UTF8 = 16,   /* a key provider ID is not UTF-8 */
     HEADER_CONTENT_TYPE = 17,           /* the content type is not 01 or 02 */
     HEADER_RESERVED_BYTES = 18,         /* the reserved bytes are not 00 00 00 00 */
-    HEADER_IV_LENGTH = 19,              /* the IV length is not 12; writing version 2, it is not 0 */
+    HEADER_IV_LENGTH = 19,              /* the IV length is not 12; writing a body of version 2, it is not 0 */
     HEADER_FRAME_LENGTH = 20,           /* framed content with frame length 0, or non-framed content with another */
     HEADER_OLD_EMPTY_CONTEXT = 21,      /* strict: an empty context in its old form, 00 02 00 00 */
     HEADER_PAIR_TABLE_TOO_SHORT = 22,   /* the pair table holds fewer than four numbers a pair */
@@ -166,7 +166,8 @@ HeaderPlace header_find_value(const uint8_t *message, size_t message_len, uint64
 
 /*
  * Copies the value that header_find_value finds to `out`, from its first byte on; the bytes behind it keep. Refuses as
- * header_find_value does, and then with HEADER_OUTPUT_TOO_SHORT; a refusal changes nothing. `out` lies apart from what is read.
+ * header_find_value does, and then with HEADER_OUTPUT_TOO_SHORT; a refusal changes nothing. `out` shares no byte with the message or
+ * the key: a value is not moved within its message.
  */
 HeaderCopied header_copy_value(const uint8_t *message, size_t message_len, uint64_t start, const uint8_t *key, size_t key_len,
                                uint8_t *out, size_t out_len);

@@ -66,7 +66,7 @@ fn check_with_largest(text: &[u8], table: &[u32], from: usize, keys: &[u16]) -> 
     check_up_to(text, table, from, table.len() / 4, &mut largest[..])
 }
 
-// The pairs from the `from`-th on. Where the index is full, a larger one takes its place, each in a frame of its own (see
+// The pairs from the `from`-th on. Where the index is full, a larger one takes its place, the largest in a frame of its own (see
 // `context::pairs`).
 fn check_from(text: &[u8], table: &[u32], from: usize, keys: &mut [u16]) -> Checked
     requires { ⌜ (every (in-text (now text) (now table)) (places (now table)) ≡ true) × (length (now table) / 4 ≤ 65535) × Reached (now text) (now table) from (now keys) × (length (now keys) ≤ 1024) ⌝ }

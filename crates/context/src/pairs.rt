@@ -101,9 +101,9 @@ fn pairs_with_largest(
     pairs_up_to(m, first, count, from, count, start, &mut largest[..])
 }
 
-// Goes on to the last pair. Where the index is full, a larger one takes its place. An array is written whole before it is used, and takes
-// its room on the stack as soon as its function is called: so each size waits for the pairs that fill the one before it. That this
-// function calls itself is what keeps the compiler from joining it, and the largest array, with its caller's frame.
+// Goes on to the last pair. Where the index is full, a larger one takes its place, written whole only then. An array takes its room on
+// the stack as soon as its function is called: so the largest has a function of its own, which waits for the pairs that fill the one
+// before it. That this function calls itself is what keeps the compiler from joining it, and the largest array, with its caller's frame.
 fn pairs_from(m: &[u8], first: u64, count: usize, from: usize, start: u64, keys: &mut [u16]) -> Next
     requires { ⌜ Reached (now m) first count from start (now keys) × (length (now keys) ≤ 512) × (length (now m) < 4294967296) ⌝ }
     ensures { λ r. ⌜ r ≡ next-of (at (repeat count read-next-aad-pair []) (now (m .entry)) first) ⌝ }

@@ -1,4 +1,4 @@
-// Every operation for a host program in C or Rust. Enums don't cross the boundary: each answer is a struct of numbers, by value.
+// Every operation for a host program in C or Rust. Enums don't cross the boundary: each answer is a number or a struct of numbers, by value.
 mod asked;
 mod auth_tag;
 mod body;

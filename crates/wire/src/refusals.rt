@@ -57,7 +57,7 @@ pub const CONTENT_TYPE: u8 = 17;
 // The reserved bytes are not 00 00 00 00.
 pub const RESERVED_BYTES: u8 = 18;
 
-// The IV length is not the suite's; writing version 2, it is not 0.
+// The IV length is not the suite's; writing a body of version 2, it is not 0.
 pub const IV_LENGTH: u8 = 19;
 
 // Framed content with frame length 0, or non-framed content with another.
