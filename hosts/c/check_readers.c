@@ -1,7 +1,7 @@
 /*
- * A host in C: calls every exported operation that reads, and compares each number that it answers, and each byte and table entry
+ * A host in C: calls every exported operation that reads but one, and compares each number that it answers, and each byte and table entry
  * that it was lent, with what document 01 says. Writes `compared N cases`; a difference is written to standard error, and the exit
- * status is 1. check_writers.c does the same for what writes.
+ * status is 1. check_writers.c does the same for what writes, and for reading authentication records.
  *
  *     rt staticlib header_c
  *     gcc -std=c99 -O2 -Wall -Wextra -Iinclude hosts/c/check_readers.c target/staticlib/libheader_c.a -o target/check_readers
