@@ -15,7 +15,7 @@
 
 /* how the archive lays its structs out, which the values below go round through */
 typedef char sizes[(sizeof(HeaderSection) == 32 && sizeof(HeaderPlace) == 32 && sizeof(HeaderAuth) == 56
-                    && sizeof(HeaderBody) == 96 && sizeof(HeaderWritten) == 16 && sizeof(HeaderNumbers) == 24)
+                    && sizeof(HeaderBody) == 96 && sizeof(HeaderWritten) == 16 && sizeof(HeaderNumbers) == 24 && sizeof(HeaderCopied) == 24)
                        ? 1
                        : -1];
 typedef char offsets[(offsetof(HeaderAuth, iv) == 24 && offsetof(HeaderAuth, tag) == 36 && offsetof(HeaderBody, numbers) == 16

@@ -1,5 +1,5 @@
 -- Document 01's lists of refusals for reading, as lists: a line an item, in its order. A line says, in terms of the message alone,
--- when it applies and with which position. `FirstRefusal` ties them to the readers, both ways; it is proved in proofs/First.
+-- when it applies and with which position. `FirstRefusal` ties them to the readers, both ways; it is proved in proofs/First and FirstBody.
 -- A line behind one that applies may speak of bytes that are not there; nothing rests on it. Assumes nothing.
 use mathlib.Core.Path.{_≡_}
 use mathlib.Core.Bool.{Bool, true, false, not, cond, _&&_, _||_}
