@@ -12,6 +12,7 @@ use Rattle.format.specs.Context.{Form, tolerant}
 use Rattle.format.specs.Keys.{Max}
 use Rattle.format.specs.Body.{Request, either, request, read-body, read-header-body, image}
 use Rattle.format.specs.First.{FirstApplies, operation-list, FirstRefusal, body-list}
+use Rattle.format.specs.Places.{body-here, body-end}
 use Rattle.format.specs.Demand3.{Stands, Gives, Sentence1}
 use Rattle.format.proofs.Tests.{leb-is, is-leb}
 use Rattle.format.proofs.Exact.{Took}
@@ -76,7 +77,7 @@ module _ (max : Max) (pairRoom keyRoom : ℕ) (m : List ℕ) (s : ℕ) where
         record { fields = fields-at s x; placed = body-held m q s x ok (record { after = h .after; is = h .bytes }) },
       )
 
-  listed : FirstRefusal (read-header-body either tolerant max pairRoom keyRoom) (body-list q) m s
+  listed : FirstRefusal (read-header-body either tolerant max pairRoom keyRoom) (body-list q) body-here body-end m s
   unfolding read-header-body
   listed = first-refusals .of-body q m s
 

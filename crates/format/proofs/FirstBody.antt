@@ -15,17 +15,13 @@ use Rattle.format.specs.Fields.{PairAt, EncryptedDataKeyAt, HeaderBody, 
 use Rattle.format.specs.Context.{Mode, tolerant, seen, look-up, find-value}
 use Rattle.format.specs.Body.{Which, Opening, read-opening-of, read-opening, Closing, read-closing-of, read-closing, whole, Request, after-context, after-opening, read-body}
 use Rattle.format.specs.Auth.{HeaderAuth, zeros, read-header-auth-tag-of, read-header-auth-tag}
-use Rattle.format.specs.Places.{number8, number16, number32, part-of, entry-end, section-pairs, section-keys, section-keys-end}
+use Rattle.format.specs.Places.{number8, number16, number32, part-of, entry-end, section-pairs, section-keys, section-keys-end, opening-here, closing-here, closing-end, body-here, body-end, value-of, value-here, auth-of-here, auth-here, auth-end}
 use Rattle.format.specs.First.{Line, lacks, when, unless, NoneApplies, FirstApplies, operation-list, opening-list-of, opening-list, closing-list-of, closing-list, frame-here, body-list, auth-list, find-list, FirstRefusal, FirstRefusals}
 use Rattle.format.proofs.Lines.{first-line, none-applies, applies-none, first-applies, applies-first, Goes, goes-as, return-goes, bind-goes, test-goes, read-goes}
 use Rattle.format.proofs.Messages.{refused-is-no-accepted}
 use Rattle.format.proofs.First.{uint8-goes, uint16-goes, uint32-goes, context-goes, context-into-goes, keys-goes, keys-into-goes}
 
--- what stands before the context section, behind the version byte; true: version 1
-unfoldable opening-here : Bool → List ℕ → ℕ → Opening
-opening-here true m s = record { version = 1; messageType = number8 m s; suite = number16 m (s + 1); messageId = part-of m (s + 1 + 2) 16 }
-opening-here false m s = record { version = 2; messageType = 0; suite = number16 m s; messageId = part-of m (s + 2) 32 }
-
+-- where the context section starts, of what follows the version byte at s; true: version 1
 unfoldable opening-end : Bool → ℕ → ℕ
 opening-end true s = s + 1 + 2 + 16
 opening-end false s = s + 2 + 32
@@ -50,16 +46,6 @@ opening-goes which = goes-as (bind-goes version-goes (λ v. test-goes _ _ (openi
     ends : (b : Bool) (s : ℕ) → opening-end b (s + 1) ≡ s + cond b 20 35
     ends true s = omega arith
     ends false s = omega arith
-
--- what stands behind the key section; true: version 1
-unfoldable closing-here : Bool → List ℕ → ℕ → Closing
-closing-here true m s =
-    record { contentType = number8 m s; headerIvLength = number8 m (s + 1 + 4); frameLength = number32 m (s + 1 + 4 + 1); suiteData = record { start = 0; bytes = [] } }
-closing-here false m s = record { contentType = number8 m s; headerIvLength = 0; frameLength = number32 m (s + 1); suiteData = part-of m (s + 1 + 4) 32 }
-
-unfoldable closing-end : Bool → ℕ → ℕ
-closing-end true s = s + 1 + 4 + 1 + 4
-closing-end false s = s + 1 + 4 + 32
 
 content-goes : Goes read-content-type (λ m s. lacks 1 m s ∷ unless 17 (one-or-two (number8 m s)) ∷ []) number8 (λ m s. s + 1)
 unfolding read-content-type
@@ -88,17 +74,6 @@ content-is true m s = refl
 content-is false m s = refl
 
 module _ (q : Request) where
-  -- what a body gives
-  abbrev body-here : List ℕ → ℕ → HeaderBody
-  body-here m s =
-      let v1 = eqb (number8 m s) 1 in
-      let aad = s + by (number8 m s) 20 35 in
-      let edks = entry-end m aad in
-      whole (opening-here v1 m (s + 1)) (section-pairs m aad) (section-keys m edks) (closing-here v1 m (section-keys-end m edks))
-
-  abbrev body-end : List ℕ → ℕ → ℕ
-  body-end m s = closing-end (eqb (number8 m s) 1) (section-keys-end m (entry-end m (s + by (number8 m s) 20 35)))
-
   body-goes : Goes (read-body q) (body-list q) body-here body-end
   unfolding read-body after-opening after-context body-list
   body-goes =
@@ -109,10 +84,6 @@ module _ (q : Request) where
       (λ m s e. (rw (is-v1 (eqb (number8 m s) 1) m (s + 1)) refl, rw (is-v1 (eqb (number8 m s) 1) m (s + 1)) refl))
 
 -- find: the key has to be seen among the pairs
-value-of : List ℕ → List PairAt → Part
-value-of k [] = record { start = 0; bytes = [] }
-value-of k (p ∷ ps) = cond (same-bytes k (p .key .bytes)) (p .value) (value-of k ps)
-
 look-goes : (k : List ℕ) (ps : List PairAt) → Goes (look-up k ps) (λ m s. unless 29 (seen k (map pair-of ps)) ∷ []) (λ m s. value-of k ps) (λ m s. s)
 unfolding look-up seen value-of test _>>_ return
 look-goes k [] = test-goes 29 false (return-goes (record { start = 0; bytes = [] }))
@@ -123,21 +94,17 @@ look-goes k (p ∷ ps) = here (same-bytes k (p .key .bytes)) (look-goes k ps)
     here true h = test-goes 29 true (return-goes (p .value))
     here false h = h
 
-find-goes : (k : List ℕ) → Goes (find-value k) (find-list k) (λ m s. value-of k (section-pairs m s)) entry-end
+find-goes : (k : List ℕ) → Goes (find-value k) (find-list k) (value-here k) entry-end
 unfolding find-value find-list
 find-goes k = bind-goes (context-goes tolerant) (look-goes k)
 
 -- an authentication record; true: version 1
-auth-here : Bool → List ℕ → ℕ → HeaderAuth
-auth-here true m s = record { headerIv = part-of m s 12 .bytes; headerAuthTag = part-of m (s + 12) 16 .bytes }
-auth-here false m s = record { headerIv = zeros 12; headerAuthTag = part-of m s 16 .bytes }
-
-auth-of-goes : (b : Bool) → Goes (read-header-auth-tag-of b) (λ m s. cond b (lacks 12 m s ∷ lacks 16 m (s + 12) ∷ []) (lacks 16 m s ∷ [])) (auth-here b) (λ m s. cond b (s + 12 + 16) (s + 16))
-unfolding read-header-auth-tag-of auth-here
+auth-of-goes : (b : Bool) → Goes (read-header-auth-tag-of b) (λ m s. cond b (lacks 12 m s ∷ lacks 16 m (s + 12) ∷ []) (lacks 16 m s ∷ [])) (auth-of-here b) (λ m s. cond b (s + 12 + 16) (s + 16))
+unfolding read-header-auth-tag-of auth-of-here
 auth-of-goes true = bind-goes (read-goes 12) (λ iv. bind-goes (read-goes 16) (λ tag. return-goes _))
 auth-of-goes false = bind-goes (read-goes 16) (λ tag. return-goes _)
 
-auth-goes : (suite : ℕ) → Goes (read-header-auth-tag suite) (auth-list suite) (auth-here (eqb (suite-version suite) 1)) (λ m s. cond (eqb (suite-version suite) 1) (s + 12 + 16) (s + 16))
+auth-goes : (suite : ℕ) → Goes (read-header-auth-tag suite) (auth-list suite) (auth-here suite) (auth-end suite)
 unfolding read-header-auth-tag auth-list
 auth-goes suite = test-goes _ _ (auth-of-goes (eqb (suite-version suite) 1))
 
@@ -163,12 +130,12 @@ module _ {A : Type 0} {r : Reader A} {list : List ℕ → ℕ → List Line} {va
       by false none e = let z : _≡_ {A = ℕ} 0 1 = cc in absurd (omega arith)
       by false (some x) e = let z : unless 1 false ≡ x = cc in rw (← z) refl
 
-  pub first-refusal : FirstRefusal r list m s
+  pub first-refusal : FirstRefusal r list value end m s
   first-refusal =
       record {
         refuses = λ k p e. found k p e (first-line lines) refl;
         applies = λ k p f. let (w, e, n, q) = applies-first lines k p f in rw (n, q) at (says (some w) e);
-        accepts = λ f. (value m s, end m s, says none (applies-none lines f));
+        accepts = λ f. says none (applies-none lines f);
       }
     where
       found : (k p : ℕ) → operation r m s ≡ refused k p → (x : Option Line) → first-line lines ≡ x → FirstApplies lines k p

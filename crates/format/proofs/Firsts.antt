@@ -1,4 +1,5 @@
--- The first refusal of a list of checks: there is none just where every check passes. Assumes nothing.
+-- The first refusal of a list of checks: there is none just where every check passes, and else it is the first that fails.
+-- Assumes nothing.
 use mathlib.Core.Path.{_≡_, refl, sym, ap, _∙_}
 use mathlib.Core.Bool.{Bool, true, false, _&&_, _||_}
 use mathlib.Core.Logic.{_⊎_, inl, inr}
@@ -6,7 +7,9 @@ use mathlib.Core.Option.{Option, none, some}
 use mathlib.Core.List.{List, [], _∷_, _++_, append-assoc}
 use Prim.Native.Nat.{ℕ}
 use native.Mathlib.Omega.{arith}
+use Rattle.format.specs.Serialize.{every}
 use Rattle.format.specs.Checks.{Check, check, first}
+use Rattle.format.specs.Pinned.{FirstFails}
 
 abbrev pub Holds : List Check → Type 0
 Holds [] = Unit {0}
@@ -44,3 +47,30 @@ and e f = rw (e, f) refl
 pub or-cases : (a b : Bool) → (a || b) ≡ true → (a ≡ true) ⊎ (b ≡ true)
 or-cases true b e = inl refl
 or-cases false b e = inr e
+
+pub first-fails : (checks : List Check) (k : ℕ) → first checks ≡ some k → FirstFails checks k
+unfolding first every
+first-fails [] k e = let z : _≡_ {A = ℕ} 0 1 = cc in absurd (omega arith)
+first-fails (c ∷ cs) k e = go (c .passes) refl e (first-fails cs k)
+  where
+    go : (b : Bool) → c .passes ≡ b → _≡_ {A = Option ℕ} (elim b as (λ x. Option ℕ) [ true ↦ first cs | false ↦ some (c .number) ]) (some k) → (first cs ≡ some k → FirstFails cs k) → FirstFails (c ∷ cs) k
+    go true h e ih =
+        let z = ih e in
+        record {
+          before = c ∷ z .before;
+          failing = z .failing;
+          behind = z .behind;
+          listed = ap (λ (xs : List Check). c ∷ xs) (z .listed);
+          before-pass = and h (z .before-pass);
+          fails = z .fails;
+          its-number = z .its-number;
+        }
+    go false h e ih = record { before = []; failing = c; behind = cs; listed = refl; before-pass = refl; fails = h; its-number = cc }
+
+pub fails-first : (checks : List Check) (k : ℕ) → FirstFails checks k → first checks ≡ some k
+unfolding first every
+fails-first checks k h = ap first (h .listed) ∙ skip (h .before) (h .before-pass)
+  where
+    skip : (ys : List Check) → every (λ (c : Check). c .passes) ys ≡ true → first (ys ++ (h .failing ∷ h .behind)) ≡ some k
+    skip [] e = rw (h .fails, first) (ap some (h .its-number))
+    skip (y ∷ ys) e = let z = both (y .passes) _ e in rw (z .0, first) (skip ys (z .1))

@@ -17,6 +17,7 @@ use Rattle.format.specs.Demand3.{stands-at, Sentence3}
 use Rattle.format.proofs.Tests.{is-leb, is-nleb, is-eqb}
 use Rattle.format.proofs.Serialize.{read-fits, read-short}
 use Rattle.format.proofs.Messages.{operation-here, operation-far}
+use Rattle.format.proofs.FirstBody.{first-refusals}
 
 -- one byte at the front of the bytes left
 one-byte : (x : ℕ) (l : List ℕ) (s : ℕ) → read-uint8 (x ∷ l) s ≡ success x l (s + 1)
@@ -105,4 +106,5 @@ sentence-3 mode max pairRoom keyRoom m s fits =
     record {
       version-1 = lifted _ _ 2 (one-body mode max pairRoom keyRoom) m s fits;
       version-2 = lifted _ _ 1 (two-body mode max pairRoom keyRoom) m s fits;
+      untested = first-refusals .of-body (request either mode false max pairRoom keyRoom) m s;
     }

@@ -8,15 +8,16 @@ use native.Mathlib.Omega.{arith}
 use lib.Dec.{leb, eqb}
 use lib.ListN.{length, drop, length-drop}
 use Rattle.format.specs.Shared.{one-or-two, frame-fits}
-use Rattle.format.specs.Read.{at}
+use Rattle.format.specs.Read.{at, addressable}
 use Rattle.format.specs.Serialize.{read, read-at, write-uint16, write-uint32, images}
 use Rattle.format.specs.Fields.{Pair, EncryptedDataKey}
 use Rattle.format.specs.Context.{write-aad-pair, write-aad-pairs}
 use Rattle.format.specs.Keys.{write-encrypted-data-key, write-encrypted-data-keys}
+use Rattle.format.specs.Body.{Which, either, v1-only, v2-only, tests-frames}
 use Rattle.format.specs.Pinned.{Decides, Pinned}
 use Rattle.format.proofs.Tests.{leb-is, is-leb, nleb-is, is-nleb, eqb-is, is-eqb, neqb-is}
 use Rattle.format.proofs.Serialize.{read-fits, read-short}
-use Rattle.format.proofs.Firsts.{both, or-cases}
+use Rattle.format.proofs.Firsts.{both, and, or-cases, first-fails, fails-first}
 use Rattle.format.proofs.Grammar.{valid-octets, octets-valid}
 use Rattle.format.proofs.Characters.{to-characters, to-octets}
 use Rattle.format.proofs.Suites.{in-a-row, row-of, no-third, committing, eleven}
@@ -67,6 +68,11 @@ keys-join : (ks js : List EncryptedDataKey) → write-encrypted-data-keys (ks ++
 unfolding write-encrypted-data-keys
 keys-join = images-join write-encrypted-data-key
 
+frames-tested : (which : Which) → Decides (tests-frames which) (which ≡ either)
+frames-tested either = record { then-holds = λ e. refl; holds-then = λ h. refl }
+frames-tested v1-only = record { then-holds = λ e. let z : _≡_ {A = ℕ} 0 1 = cc in absurd (omega arith); holds-then = λ h. ap tests-frames h }
+frames-tested v2-only = record { then-holds = λ e. let z : _≡_ {A = ℕ} 0 1 = cc in absurd (omega arith); holds-then = λ h. ap tests-frames h }
+
 module _ (n : ℕ) (m : List ℕ) (s : ℕ) where
   fits : s ≤ length m → s + n ≤ length m → at (read n) m s ≡ read-at n m s
   unfolding at read-at
@@ -104,6 +110,11 @@ uint32 x h =
 pub pinned : Pinned
 pinned =
     record {
+      addresses = λ m s.
+          record {
+            then-holds = λ e. let z = both (leb (length m) 4294967295) (leb s 4294967295) e in (is-leb _ _ (z .0), is-leb _ _ (z .1));
+            holds-then = λ h. and (leb-is _ _ (h .0)) (leb-is _ _ (h .1));
+          };
       some-bytes = some-bytes;
       within-the-message = within-the-message;
       two-bytes = λ a b. omega arith;
@@ -121,8 +132,10 @@ pinned =
       no-third = no-third;
       one-two = one-two;
       frames = frames;
+      frames-tested = frames-tested;
       maximum = λ n max. record { then-holds = is-leb n max; holds-then = leb-is n max };
       no-maximum = λ n. refl;
+      first-check = λ checks k. record { onward = first-fails checks k; back = fails-first checks k };
       tables = tables;
       pairs-take = length-pairs;
       lengths = lengths;

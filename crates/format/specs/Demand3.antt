@@ -14,6 +14,7 @@ use Rattle.format.specs.Keys.{Max, within}
 use Rattle.format.specs.Body.{Which, either, v1-only, v2-only, Opening, read-opening, request, read-header-body, read-header-body-untested, image}
 use Rattle.format.specs.Checks.{Accepts, first}
 use Rattle.format.specs.First.{FirstApplies, operation-list, FirstRefusal, body-list}
+use Rattle.format.specs.Places.{body-here, body-end}
 use Rattle.format.specs.Lent.{bytes-at, filled, table-checks, BodyToWrite, fields-to-write, writing-header-body, written, output-after, pair-table-after, key-table-after}
 
 -- WHAT THE SENTENCES SPEAK OF
@@ -73,7 +74,7 @@ pub record Sentence1 (max : Max) (pairRoom keyRoom : ℕ) (m : List ℕ) (s : �
   pub otherwise : length m ≤ 4294967295 → ((form : Form) (f : Fields) → Stands max pairRoom keyRoom m s form f → ⊥)
       → (k : ℕ) × (p : ℕ) × (operation (read-header-body either tolerant max pairRoom keyRoom) m s ≡ refused k p)
       × FirstApplies (operation-list (body-list (request either tolerant true max pairRoom keyRoom)) m s) k p
-  pub listed : FirstRefusal (read-header-body either tolerant max pairRoom keyRoom) (body-list (request either tolerant true max pairRoom keyRoom)) m s
+  pub listed : FirstRefusal (read-header-body either tolerant max pairRoom keyRoom) (body-list (request either tolerant true max pairRoom keyRoom)) body-here body-end m s
   pub longer : 4294967295 < length m → operation (read-header-body either tolerant max pairRoom keyRoom) m s ≡ refused 1 0
   pub farther : 4294967295 < s → operation (read-header-body either tolerant max pairRoom keyRoom) m s ≡ refused 1 0
 
@@ -98,6 +99,8 @@ pub record Sentence3 (mode : Mode) (max : Max) (pairRoom keyRoom : ℕ) (m : Lis
       ≡ cond (stands-at 2 m s) (refused 4 0) (operation (read-header-body-untested mode max pairRoom keyRoom) m s)
   pub version-2 : operation (read-header-body v2-only mode max pairRoom keyRoom) m s
       ≡ cond (stands-at 1 m s) (refused 4 0) (operation (read-header-body-untested mode max pairRoom keyRoom) m s)
+  -- with 20 left untested: by the list in which that line never applies
+  pub untested : FirstRefusal (read-header-body-untested mode max pairRoom keyRoom) (body-list (request either mode false max pairRoom keyRoom)) body-here body-end m s
 
 -- SENTENCE 4. Today's writer writes an empty context as 00 00 and the old one wrote 00 02 00 00; otherwise the two write the same
 -- bytes. Where no refusal applies the writer's output is today's image and its length; reading it back follows from sentence 1.

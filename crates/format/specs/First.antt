@@ -1,5 +1,5 @@
 -- Document 01's lists of refusals for reading, as lists: a line an item, in its order. A line says, in terms of the message alone,
--- when it applies and with which position. `FirstRefusal` ties them to the readers, both ways; it is proved in proofs/First and FirstBody.
+-- when it applies and with which position. `FirstRefusal` ties them to the readers, both ways; it is proved in proofs/FirstBody.
 -- A line behind one that applies may speak of bytes that are not there; nothing rests on it. Assumes nothing.
 use mathlib.Core.Path.{_≡_}
 use mathlib.Core.Bool.{Bool, true, false, not, cond, _&&_, _||_}
@@ -16,7 +16,7 @@ use Rattle.format.specs.Context.{Mode, tolerant, is-strict, seen, pair-l
 use Rattle.format.specs.Keys.{Max, within, read-encrypted-data-keys-section-into}
 use Rattle.format.specs.Body.{Which, asked, Request, read-body}
 use Rattle.format.specs.Auth.{read-header-auth-tag}
-use Rattle.format.specs.Places.{number8, number16, number32, entry-here, entry-end, pair-here, pair-end, pairs-end, key-here, key-end, section-pairs, section-keys, section-keys-end}
+use Rattle.format.specs.Places.{number8, number16, number32, entry-here, entry-end, pair-here, pair-end, pairs-end, key-here, key-end, section-pairs, section-keys, section-keys-end, body-here, body-end, value-here, auth-here, auth-end}
 
 -- a line of a list: a refusal's number and position, and whether it applies
 pub record Line : Type 0 where
@@ -180,18 +180,19 @@ keys-into-list max room m s = keys-list max m s ++ (unless 23 (leb (6 * length (
 unfoldable pub find-list : List ℕ → List ℕ → ℕ → List Line
 find-list k m s = context-list tolerant m s ++ (unless 29 (seen k (map pair-of (section-pairs m s))) ∷ [])
 
--- AN OPERATION refuses by the first line that applies, 1 in front of them all, and accepts where none does
+-- AN OPERATION refuses by the first line that applies, 1 in front of them all; where none does it accepts, and gives what stands
+-- there and the place behind it (specs/Places), an empty part with the start that its bytes would have
 abbrev pub operation-list : (List ℕ → ℕ → List Line) → List ℕ → ℕ → List Line
 operation-list list m s = unless 1 (addressable m s) ∷ list m s
 
-pub record FirstRefusal {A : Type 0} (r : Reader A) (list : List ℕ → ℕ → List Line) (m : List ℕ) (s : ℕ) : Type 0 where
+pub record FirstRefusal {A : Type 0} (r : Reader A) (list : List ℕ → ℕ → List Line) (here : List ℕ → ℕ → A) (end : List ℕ → ℕ → ℕ) (m : List ℕ) (s : ℕ) : Type 0 where
   pub refuses : (k p : ℕ) → operation r m s ≡ refused k p → FirstApplies (operation-list list m s) k p
   pub applies : (k p : ℕ) → FirstApplies (operation-list list m s) k p → operation r m s ≡ refused k p
-  pub accepts : NoneApplies (operation-list list m s) → (a : A) × (t : ℕ) × (operation r m s ≡ accepted a t)
+  pub accepts : NoneApplies (operation-list list m s) → operation r m s ≡ accepted (here m s) (end m s)
 
 pub record FirstRefusals : Type 0 where
-  pub of-context : (mode : Mode) (room : ℕ) (m : List ℕ) (s : ℕ) → FirstRefusal (read-aad-section-into mode room) (context-into-list mode room) m s
-  pub of-find : (k m : List ℕ) (s : ℕ) → FirstRefusal (find-value k) (find-list k) m s
-  pub of-keys : (max : Max) (room : ℕ) (m : List ℕ) (s : ℕ) → FirstRefusal (read-encrypted-data-keys-section-into max room) (keys-into-list max room) m s
-  pub of-body : (q : Request) (m : List ℕ) (s : ℕ) → FirstRefusal (read-body q) (body-list q) m s
-  pub of-auth : (suite : ℕ) (m : List ℕ) (s : ℕ) → FirstRefusal (read-header-auth-tag suite) (auth-list suite) m s
+  pub of-context : (mode : Mode) (room : ℕ) (m : List ℕ) (s : ℕ) → FirstRefusal (read-aad-section-into mode room) (context-into-list mode room) section-pairs entry-end m s
+  pub of-find : (k m : List ℕ) (s : ℕ) → FirstRefusal (find-value k) (find-list k) (value-here k) entry-end m s
+  pub of-keys : (max : Max) (room : ℕ) (m : List ℕ) (s : ℕ) → FirstRefusal (read-encrypted-data-keys-section-into max room) (keys-into-list max room) section-keys section-keys-end m s
+  pub of-body : (q : Request) (m : List ℕ) (s : ℕ) → FirstRefusal (read-body q) (body-list q) body-here body-end m s
+  pub of-auth : (suite : ℕ) (m : List ℕ) (s : ℕ) → FirstRefusal (read-header-auth-tag suite) (auth-list suite) (auth-here suite) (auth-end suite) m s

@@ -1,5 +1,5 @@
 -- Demand 3 has some tests on both of its sides, so a wrong one would still satisfy it: UTF-8, key seen before, known suites, frame
--- length against content type, lengths. Here each is held to a statement of its own; they are proved in proofs/Pinned. Assumes nothing.
+-- length against content type and who tests it, the reach of 1, which of a writer's checks is the first to fail, lengths. Here each is held to a statement of its own; they are proved in proofs/Pinned. Assumes nothing.
 use mathlib.Core.Path.{_≡_}
 use mathlib.Core.Bool.{Bool, true, false, cond}
 use mathlib.Core.Logic.{_⊎_}
@@ -8,14 +8,15 @@ use mathlib.Core.List.{List, [], _∷_, _++_, map, List·Memᴰ}
 use Prim.Native.Nat.{ℕ, _+_, _*_, _/_, _%_, _≤_, _<_}
 use lib.Dec.{leb}
 use lib.ListN.{length, getD}
-use Rattle.format.specs.Read.{at}
-use Rattle.format.specs.Serialize.{read, read-at, number, write-uint16, write-uint32, same-bytes}
+use Rattle.format.specs.Read.{at, addressable}
+use Rattle.format.specs.Serialize.{read, read-at, every, number, write-uint16, write-uint32, same-bytes}
 use Rattle.format.specs.Utf8.{Range, has, rows, valid-utf8-seq}
 use Rattle.format.specs.Shared.{one-or-two, SuiteRow, row, suites, suite-version, known, frame-fits}
 use Rattle.format.specs.Fields.{Pair, PairAt, pair-of, EncryptedDataKey}
 use Rattle.format.specs.Context.{seen, linear-length, write-aad-pairs}
 use Rattle.format.specs.Keys.{Max, no-max, at-most, within, write-encrypted-data-keys}
-use Rattle.format.specs.Checks.{first}
+use Rattle.format.specs.Body.{Which, either, tests-frames}
+use Rattle.format.specs.Checks.{Check, first}
 use Rattle.format.specs.Lent.{table-checks}
 use Rattle.format.specs.Demand3.{Has}
 use Rattle.format.specs.Characters.{Characters}
@@ -46,10 +47,22 @@ pub record InText (k : ℕ) (text table : List ℕ) : Type 0 where
   pub in-items : length table % k ≡ 0
   pub inside : (i : ℕ) → i < length table / 2 → getD table (2 * i) 0 + getD table (2 * i + 1) 0 ≤ length text
 
+-- a check with that number fails, and each before it passes
+pub record FirstFails (checks : List Check) (number : ℕ) : Type 0 where
+  pub before : List Check
+  pub failing : Check
+  pub behind : List Check
+  pub listed : checks ≡ before ++ (failing ∷ behind)
+  pub before-pass : every (λ (c : Check). c .passes) before ≡ true
+  pub fails : failing .passes ≡ false
+  pub its-number : failing .number ≡ number
+
 abbrev pub number-of : SuiteRow → ℕ
 number-of r = r .number
 
 pub record Pinned : Type 0 where
+  -- 1
+  pub addresses : (m : List ℕ) (s : ℕ) → Decides (addressable m s) ((length m ≤ 4294967295) × (s ≤ 4294967295))
   -- n bytes at a place, where there is a byte to read or the place lies within the message
   pub some-bytes : (n : ℕ) (m : List ℕ) (s : ℕ) → 0 < n → at (read n) m s ≡ read-at n m s
   pub within-the-message : (n : ℕ) (m : List ℕ) (s : ℕ) → s ≤ length m → at (read n) m s ≡ read-at n m s
@@ -75,9 +88,13 @@ pub record Pinned : Type 0 where
   pub one-two : (x : ℕ) → Decides (one-or-two x) ((x ≡ 1) ⊎ (x ≡ 2))
   -- framed content has a frame length above 0, non-framed content has 0
   pub frames : (content frame : ℕ) → Decides (frame-fits content frame) (((content ≡ 1) × (frame ≡ 0)) ⊎ ((content ≡ 2) × (0 < frame)))
+  -- and only the either-version reader tests it
+  pub frames-tested : (which : Which) → Decides (tests-frames which) (which ≡ either)
   -- a maximum is passed by a count above it
   pub maximum : (n max : ℕ) → Decides (within n (at-most max)) (n ≤ max)
   pub no-maximum : (n : ℕ) → within n no-max ≡ true
+  -- a writer refuses by the first of its checks that fails
+  pub first-check : (checks : List Check) (k : ℕ) → JustWhere (first checks ≡ option.some k) (FirstFails checks k)
   -- 26
   pub tables : (k : ℕ) (text table : List ℕ) → JustWhere (first (table-checks k text table) ≡ option.none) (InText k text table)
   -- what pairs take is what their entries take

@@ -5,8 +5,11 @@ use mathlib.Core.List.{List, [], _∷_}
 use Prim.Native.Nat.{ℕ, zero, suc, _+_, _*_}
 use lib.Dec.{eqb}
 use lib.ListN.{getD, take, drop}
-use Rattle.format.specs.Serialize.{Part, number}
-use Rattle.format.specs.Fields.{PairAt, EncryptedDataKeyAt}
+use Rattle.format.specs.Serialize.{Part, number, same-bytes}
+use Rattle.format.specs.Shared.{by, suite-version}
+use Rattle.format.specs.Fields.{PairAt, EncryptedDataKeyAt, HeaderBody}
+use Rattle.format.specs.Body.{Opening, Closing, whole}
+use Rattle.format.specs.Auth.{HeaderAuth, zeros}
 
 -- the number of that many bytes
 abbrev pub number-here : ℕ → List ℕ → ℕ → ℕ
@@ -86,3 +89,48 @@ section-keys m s = keys-here m (number16 m s) (s + 2)
 
 abbrev pub section-keys-end : List ℕ → ℕ → ℕ
 section-keys-end m s = keys-end m (number16 m s) (s + 2)
+
+-- what stands before a body's context section, behind the version byte; true: version 1
+unfoldable pub opening-here : Bool → List ℕ → ℕ → Opening
+opening-here true m s = record { version = 1; messageType = number8 m s; suite = number16 m (s + 1); messageId = part-of m (s + 1 + 2) 16 }
+opening-here false m s = record { version = 2; messageType = 0; suite = number16 m s; messageId = part-of m (s + 2) 32 }
+
+-- what stands behind its key section, and the place behind it; true: version 1
+unfoldable pub closing-here : Bool → List ℕ → ℕ → Closing
+closing-here true m s =
+    record { contentType = number8 m s; headerIvLength = number8 m (s + 1 + 4); frameLength = number32 m (s + 1 + 4 + 1); suiteData = record { start = 0; bytes = [] } }
+closing-here false m s = record { contentType = number8 m s; headerIvLength = 0; frameLength = number32 m (s + 1); suiteData = part-of m (s + 1 + 4) 32 }
+
+unfoldable pub closing-end : Bool → ℕ → ℕ
+closing-end true s = s + 1 + 4 + 1 + 4
+closing-end false s = s + 1 + 4 + 32
+
+-- a body: the context section stands 20 or 35 bytes behind its start, and each part where the one before it ends
+abbrev pub body-here : List ℕ → ℕ → HeaderBody
+body-here m s =
+    let v1 = eqb (number8 m s) 1 in
+    let aad = s + by (number8 m s) 20 35 in
+    let edks = entry-end m aad in
+    whole (opening-here v1 m (s + 1)) (section-pairs m aad) (section-keys m edks) (closing-here v1 m (section-keys-end m edks))
+
+abbrev pub body-end : List ℕ → ℕ → ℕ
+body-end m s = closing-end (eqb (number8 m s) 1) (section-keys-end m (entry-end m (s + by (number8 m s) 20 35)))
+
+-- the value of the first pair with the key
+unfoldable pub value-of : List ℕ → List PairAt → Part
+value-of k [] = record { start = 0; bytes = [] }
+value-of k (p ∷ ps) = cond (same-bytes k (p .key .bytes)) (p .value) (value-of k ps)
+
+abbrev pub value-here : List ℕ → List ℕ → ℕ → Part
+value-here k m s = value-of k (section-pairs m s)
+
+-- an authentication record, and the place behind it; true: version 1
+unfoldable pub auth-of-here : Bool → List ℕ → ℕ → HeaderAuth
+auth-of-here true m s = record { headerIv = part-of m s 12 .bytes; headerAuthTag = part-of m (s + 12) 16 .bytes }
+auth-of-here false m s = record { headerIv = zeros 12; headerAuthTag = part-of m s 16 .bytes }
+
+abbrev pub auth-here : ℕ → List ℕ → ℕ → HeaderAuth
+auth-here suite = auth-of-here (eqb (suite-version suite) 1)
+
+abbrev pub auth-end : ℕ → List ℕ → ℕ → ℕ
+auth-end suite m s = cond (eqb (suite-version suite) 1) (s + 12 + 16) (s + 16)
