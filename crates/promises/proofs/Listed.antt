@@ -1,4 +1,4 @@
--- Each reader's answer refuses by the first line that applies. Assumes nothing.
+-- Each reader's answer refuses by the first line that applies, and where none does it is that of what stands there. Assumes nothing.
 use Prim.Native.Nat.{ℕ}
 use native.Mathlib.Omega.{arith}
 use mathlib.Core.Path.{_≡_, refl, sym, ap, _∙_}
@@ -23,11 +23,13 @@ use Rattle.promises.specs.Listed.{ByFirst, AuthByFirst, ListedPromises}
 -- an answer enum that keeps a refusal apart from what is accepted
 module _ {A R : Type 0} (code : Answer A → R) (refused-as : Refusal → R)
     (back : (o : Answer A) (q : Refusal) → code o ≡ refused-as q → o ≡ refused (q .number) (q .position)) (there : (k p : ℕ) → code (refused k p) ≡ refused-as (because k p)) where
-  by-first : {r : Reader A} {list : List ℕ → ℕ → List Line} {m : List ℕ} {s : ℕ} → FirstRefusal r list m s → (x : R) → x ≡ code (operation r m s) → ByFirst refused-as (operation-list list m s) x
-  by-first {r} {list} {m} {s} law x e =
+  by-first : {r : Reader A} {list : List ℕ → ℕ → List Line} {here : List ℕ → ℕ → A} {end : List ℕ → ℕ → ℕ} {m : List ℕ} {s : ℕ} → FirstRefusal r list here end m s
+      → (x : R) → x ≡ code (operation r m s) → ByFirst refused-as (operation-list list m s) (code (accepted (here m s) (end m s))) x
+  by-first {r} {list} {here} {end} {m} {s} law x e =
       record {
         refuses = λ q f. law .refuses (q .number) (q .position) (back (operation r m s) q (sym e ∙ f));
         applies = λ k p f. e ∙ ap code (law .applies k p f) ∙ there k p;
+        accepts = λ f. e ∙ ap code (law .accepts f);
       }
 
 back-context : (o : Answer (List PairAt)) (q : Refusal) → context-of o ≡ context.Refused q → o ≡ refused (q .number) (q .position)
@@ -42,12 +44,13 @@ back-keys : (o : Answer (List EncryptedDataKeyAt)) (q : Refusal) → keys-of o �
 back-keys (accepted ps t) q e = let z : _≡_ {A = ℕ} 0 1 = cc in absurd (omega arith)
 back-keys (refused k p) q e = let z : because k p ≡ q = cc in rw (← z) refl
 
-auth-by-first : {r : Reader HeaderAuth} {list : List ℕ → ℕ → List Line} {m : List ℕ} {s : ℕ} → FirstRefusal r list m s → (x : AuthRead) → x ≡ auth-of (operation r m s)
-    → AuthByFirst (operation-list list m s) x
-auth-by-first {r} {list} {m} {s} law x e =
+auth-by-first : {r : Reader HeaderAuth} {list : List ℕ → ℕ → List Line} {here : List ℕ → ℕ → HeaderAuth} {end : List ℕ → ℕ → ℕ} {m : List ℕ} {s : ℕ} → FirstRefusal r list here end m s
+    → (x : AuthRead) → x ≡ auth-of (operation r m s) → AuthByFirst (operation-list list m s) (auth-of (accepted (here m s) (end m s))) x
+auth-by-first {r} {list} {here} {end} {m} {s} law x e =
     record {
       refuses = λ some. by (operation r m s) refl some;
       applies = λ k p f. let z = e ∙ ap auth-of (law .applies k p f) in (ap (λ (y : AuthRead). y .number) z, ap (λ (y : AuthRead). y .position) z);
+      accepts = λ f. e ∙ ap auth-of (law .accepts f);
     }
   where
     by : (o : Answer HeaderAuth) → operation r m s ≡ o → (x .number ≡ 0 → ⊥) → FirstApplies (operation-list list m s) (x .number) (x .position)

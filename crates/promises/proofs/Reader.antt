@@ -12,6 +12,7 @@ use Rattle.format.specs.Fields.{HeaderBody as BodyRead}
 use Rattle.format.specs.Context.{Form, Mode, tolerant, strict}
 use Rattle.format.specs.Keys.{Max}
 use Rattle.format.specs.Body.{Which, either, tests-frames, request, read-body, read-header-body}
+use Rattle.format.specs.Places.{body-here, body-end}
 use Rattle.format.specs.First.{FirstApplies, FirstRefusal, body-list}
 use Rattle.format.specs.Demand3.{Stands, reaches-old}
 use Rattle.format.proofs.FirstBody.{first-refusals}
@@ -40,7 +41,7 @@ refused-is r (accepted b u) e q f = let z : _≡_ {A = ℕ} 0 1 = cc in absurd (
 refused-is r (refused k p) e q f = let z : because k p ≡ q = cc in rw (← z) refl
 
 module _ (which : Which) (mode : Mode) (max : Max) (m : List ℕ) (s : ℕ) (c : Call) (call : Meets (reading which mode max m s c) c) where
-  law : FirstRefusal (read-header-body which mode max (length (c .pairs)) (length (c .keys))) (body-list (request which mode (tests-frames which) max (length (c .pairs)) (length (c .keys)))) m s
+  law : FirstRefusal (read-header-body which mode max (length (c .pairs)) (length (c .keys))) (body-list (request which mode (tests-frames which) max (length (c .pairs)) (length (c .keys)))) body-here body-end m s
   unfolding read-header-body
   law = first-refusals .of-body (request which mode (tests-frames which) max (length (c .pairs)) (length (c .keys))) m s
 
@@ -49,6 +50,7 @@ module _ (which : Which) (mode : Mode) (max : Max) (m : List ℕ) (s : ℕ) (c :
       record {
         refuses = λ q e. law .refuses (q .number) (q .position) (refused-is (c .answer) (reading which mode max m s c) (call .answer) q e);
         applies = λ k p f. refuses c (reading which mode max m s c) call k p (law .applies k p f);
+        accepts = λ f. accepts c (reading which mode max m s c) call (body-here m s) (body-end m s) (law .accepts f);
       }
 
 module _ (max : Max) (m : List ℕ) (s : ℕ) (c : Call) (bytes : Bytes m) (call : Meets (reading either tolerant max m s c) c) where

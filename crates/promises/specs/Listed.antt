@@ -1,14 +1,15 @@
--- The first refusal listed that applies, of the code: what every call of the other readers answers, by its contract. Proved in
--- proofs/Listed. Assumes nothing.
+-- The first refusal listed that applies, and what is read where none does, of the code: what every call of the other readers
+-- answers, by its contract. Proved in proofs/Listed. Assumes nothing.
 use Prim.Native.Nat.{ℕ}
 use mathlib.Core.Path.{_≡_}
 use mathlib.Core.List.{List}
-use Rattle.format.specs.Read.{operation}
+use Rattle.format.specs.Read.{accepted, operation}
 use Rattle.format.specs.Context.{Mode, read-aad-section-into, find-value}
 use Rattle.format.specs.Keys.{Max, read-encrypted-data-keys-section-into}
 use Rattle.format.specs.Auth.{read-header-auth-tag}
 use Rattle.format.specs.Lent.{pair-numbers, key-numbers}
-use Rattle.format.specs.First.{Line, FirstApplies, operation-list, context-into-list, keys-into-list, find-list, auth-list}
+use Rattle.format.specs.Places.{entry-end, section-pairs, section-keys, section-keys-end, value-here, auth-here, auth-end}
+use Rattle.format.specs.First.{Line, NoneApplies, FirstApplies, operation-list, context-into-list, keys-into-list, find-list, auth-list}
 use Rattle.wire.specs.Codes.{because}
 use Rattle.wire.specs.declared.Refusal.{Refusal}
 use Rattle.entries.specs.Codes.{Reads}
@@ -23,20 +24,22 @@ use Rattle.keys.specs.declared.KeysAnswer.the-variants as keys
 use Rattle.auth.specs.Codes.{auth-of}
 use Rattle.auth.specs.declared.AuthRead.{AuthRead}
 
--- an answer refuses just by the first line that applies, with its position
-pub record ByFirst {R : Type 0} (refused : Refusal → R) (list : List Line) (r : R) : Type 0 where
+-- an answer refuses just by the first line that applies, with its position, and is that of what stands there where none does
+pub record ByFirst {R : Type 0} (refused : Refusal → R) (list : List Line) (of-what-stands : R) (r : R) : Type 0 where
   pub refuses : (q : Refusal) → r ≡ refused q → FirstApplies list (q .number) (q .position)
   pub applies : (k p : ℕ) → FirstApplies list k p → r ≡ refused (because k p)
+  pub accepts : NoneApplies list → r ≡ of-what-stands
 
 -- an authentication record's answer is a struct, with number 0 where it accepts
-pub record AuthByFirst (list : List Line) (r : AuthRead) : Type 0 where
+pub record AuthByFirst (list : List Line) (of-what-stands : AuthRead) (r : AuthRead) : Type 0 where
   pub refuses : (r .number ≡ 0 → ⊥) → FirstApplies list (r .number) (r .position)
   pub applies : (k p : ℕ) → FirstApplies list k p → (r .number ≡ k) × (r .position ≡ p)
+  pub accepts : NoneApplies list → r ≡ of-what-stands
 
 pub record ListedPromises : Type 0 where
   pub of-context : (mode : Mode) (room : ℕ) (m : List ℕ) (s : ℕ) (before after : List ℕ) (r : ContextAnswer)
-      → Reads context-of pair-numbers (operation (read-aad-section-into mode room) m s) before after r → ByFirst context.Refused (operation-list (context-into-list mode room) m s) r
-  pub of-find : (k m : List ℕ) (s : ℕ) (r : FoundAnswer) → r ≡ found-of (operation (find-value k) m s) → ByFirst found.Refused (operation-list (find-list k) m s) r
+      → Reads context-of pair-numbers (operation (read-aad-section-into mode room) m s) before after r → ByFirst context.Refused (operation-list (context-into-list mode room) m s) (context-of (accepted (section-pairs m s) (entry-end m s))) r
+  pub of-find : (k m : List ℕ) (s : ℕ) (r : FoundAnswer) → r ≡ found-of (operation (find-value k) m s) → ByFirst found.Refused (operation-list (find-list k) m s) (found-of (accepted (value-here k m s) (entry-end m s))) r
   pub of-keys : (max : Max) (room : ℕ) (m : List ℕ) (s : ℕ) (before after : List ℕ) (r : KeysAnswer)
-      → Reads keys-of key-numbers (operation (read-encrypted-data-keys-section-into max room) m s) before after r → ByFirst keys.Refused (operation-list (keys-into-list max room) m s) r
-  pub of-auth : (suite : ℕ) (m : List ℕ) (s : ℕ) (r : AuthRead) → r ≡ auth-of (operation (read-header-auth-tag suite) m s) → AuthByFirst (operation-list (auth-list suite) m s) r
+      → Reads keys-of key-numbers (operation (read-encrypted-data-keys-section-into max room) m s) before after r → ByFirst keys.Refused (operation-list (keys-into-list max room) m s) (keys-of (accepted (section-keys m s) (section-keys-end m s))) r
+  pub of-auth : (suite : ℕ) (m : List ℕ) (s : ℕ) (r : AuthRead) → r ≡ auth-of (operation (read-header-auth-tag suite) m s) → AuthByFirst (operation-list (auth-list suite) m s) (auth-of (accepted (auth-here suite m s) (auth-end suite m s))) r

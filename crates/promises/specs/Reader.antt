@@ -13,7 +13,8 @@ use Rattle.format.specs.Context.{Form, Mode, tolerant, strict}
 use Rattle.format.specs.Keys.{Max}
 use Rattle.format.specs.Body.{Which, either, v1-only, v2-only, tests-frames, request, read-header-body, read-header-body-untested, image}
 use Rattle.format.specs.Lent.{filled, pair-numbers, key-numbers}
-use Rattle.format.specs.First.{FirstApplies, Line, operation-list, body-list}
+use Rattle.format.specs.Places.{body-here, body-end}
+use Rattle.format.specs.First.{FirstApplies, NoneApplies, Line, operation-list, body-list}
 use Rattle.format.specs.Demand3.{Stands, Gives, reaches-old, stands-at}
 use Rattle.wire.specs.Codes.{because}
 use Rattle.wire.specs.declared.Refusal.{Refusal}
@@ -54,10 +55,11 @@ pub record Refuses (c : Call) (number position : ℕ) : Type 0 where
 abbrev pub listed : Which → Mode → Max → List ℕ → ℕ → Call → List Line
 listed which mode max m s c = operation-list (body-list (request which mode (tests-frames which) max (length (c .pairs)) (length (c .keys)))) m s
 
--- it refuses by the first line of the list that applies, with its position
+-- it refuses by the first line of the list that applies, with its position; where none does it accepts what stands there
 pub record Listed (which : Which) (mode : Mode) (max : Max) (m : List ℕ) (s : ℕ) (c : Call) : Type 0 where
   pub refuses : (q : Refusal) → c .answer ≡ Refused q → FirstApplies (listed which mode max m s c) (q .number) (q .position)
   pub applies : (k p : ℕ) → FirstApplies (listed which mode max m s c) k p → Refuses c k p
+  pub accepts : NoneApplies (listed which mode max m s c) → Accepts c (body-here m s) (body-end m s)
 
 -- SENTENCE 1, of the tolerant either-version reader
 pub record Sentence1 (max : Max) (m : List ℕ) (s : ℕ) (c : Call) : Type 0 where
