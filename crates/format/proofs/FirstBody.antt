@@ -39,7 +39,7 @@ version-goes : Goes read-message-format-version (λ m s. lacks 1 m s ∷ unless 
 unfolding read-message-format-version
 version-goes = bind-goes uint8-goes (λ v. test-goes _ _ (return-goes v))
 
-opening-goes : (which : Which) → Goes (read-opening which) (opening-list which) (λ m s. opening-here (eqb (number8 m s) 1) m (s + 1)) (λ m s. s + by (number8 m s) 20 35)
+pub opening-goes : (which : Which) → Goes (read-opening which) (opening-list which) (λ m s. opening-here (eqb (number8 m s) 1) m (s + 1)) (λ m s. s + by (number8 m s) 20 35)
 unfolding read-opening opening-list opening-end
 opening-goes which = goes-as (bind-goes version-goes (λ v. test-goes _ _ (opening-of-goes (eqb v 1)))) (λ m s. refl) (λ m s e. (refl, ends (eqb (number8 m s) 1) s))
   where
@@ -145,6 +145,17 @@ module _ {A : Type 0} {r : Reader A} {list : List ℕ → ℕ → List Line} {va
           let a : x .number ≡ k = cc in
           let b : x .position ≡ p = cc in
           rw (a, b) at (first-applies lines x q)
+
+  -- and an operation that accepts had no line that applies
+  pub none-applied : (a : A) (t : ℕ) → operation r m s ≡ accepted a t → NoneApplies lines × (end m s ≡ t)
+  none-applied a t e = by (first-line lines) refl
+    where
+      by : (x : Option Line) → first-line lines ≡ x → NoneApplies lines × (end m s ≡ t)
+      by none q =
+          let z : _≡_ {A = Answer A} (accepted (value m s) (end m s)) (accepted a t) = sym (says none q) ∙ e in
+          let w : end m s ≡ t = cc in
+          (none-applies lines q, w)
+      by (some x) q = refused-is-no-accepted (sym (says (some x) q) ∙ e)
 
 pub first-refusals : FirstRefusals
 first-refusals =

@@ -7,13 +7,17 @@ use Prim.Native.Nat.{ℕ, zero, suc, _+_, _*_, _/_, _%_, _≤_, _<_}
 use native.Mathlib.Omega.{arith}
 use lib.Dec.{leb, eqb}
 use lib.ListN.{length, drop, length-drop}
-use Rattle.format.specs.Shared.{one-or-two, frame-fits}
-use Rattle.format.specs.Read.{at, addressable}
+use Rattle.format.specs.Shared.{by, one-or-two, frame-fits}
+use Rattle.format.specs.Read.{Answer, accepted, refused, at, addressable, operation}
 use Rattle.format.specs.Serialize.{read, read-at, write-uint16, write-uint32, images}
 use Rattle.format.specs.Fields.{Pair, EncryptedDataKey}
 use Rattle.format.specs.Context.{write-aad-pair, write-aad-pairs}
 use Rattle.format.specs.Keys.{write-encrypted-data-key, write-encrypted-data-keys}
-use Rattle.format.specs.Body.{Which, either, v1-only, v2-only, tests-frames}
+use Rattle.format.specs.Body.{Which, either, v1-only, v2-only, Opening, read-opening, tests-frames}
+use Rattle.format.specs.Lent.{bytes-at}
+use Rattle.format.specs.Places.{number8}
+use Rattle.format.specs.First.{NoneApplies, operation-list, opening-list}
+use Rattle.format.specs.Demand3.{old-empty, reached-old, reaches-old}
 use Rattle.format.specs.Pinned.{Decides, Pinned}
 use Rattle.format.proofs.Tests.{leb-is, is-leb, nleb-is, is-nleb, eqb-is, is-eqb, neqb-is}
 use Rattle.format.proofs.Serialize.{read-fits, read-short}
@@ -24,6 +28,7 @@ use Rattle.format.proofs.Suites.{in-a-row, row-of, no-third, committing
 use Rattle.format.proofs.Context.{length-pairs}
 use Rattle.format.proofs.Tables.{tables}
 use Rattle.format.proofs.Lengths.{lengths}
+use Rattle.format.proofs.FirstBody.{opening-goes, first-refusal, none-applied}
 use Rattle.format.proofs.Find.{same-equal, equal-same, seen-has, has-seen}
 
 or-right : (a : Bool) {b : Bool} → b ≡ true → (a || b) ≡ true
@@ -72,6 +77,22 @@ frames-tested : (which : Which) → Decides (tests-frames which) (which ≡ eith
 frames-tested either = record { then-holds = λ e. refl; holds-then = λ h. refl }
 frames-tested v1-only = record { then-holds = λ e. let z : _≡_ {A = ℕ} 0 1 = cc in absurd (omega arith); holds-then = λ h. ap tests-frames h }
 frames-tested v2-only = record { then-holds = λ e. let z : _≡_ {A = ℕ} 0 1 = cc in absurd (omega arith); holds-then = λ h. ap tests-frames h }
+
+module _ (which : Which) (m : List ℕ) (s : ℕ) where
+  abbrev Reached : Type 0
+  Reached = NoneApplies (operation-list (opening-list which) m s) × (bytes-at m (s + by (number8 m s) 20 35) 4 ≡ (0x00 ∷ 0x02 ∷ 0x00 ∷ 0x00 ∷ []))
+
+  is-reached : (a : Answer Opening) → operation (read-opening which) m s ≡ a → reached-old m a ≡ true → Reached
+  is-reached (accepted o t) q e = let (n, w) = none-applied (opening-goes which) m s o t q in (n, rw w (same-equal _ _ e))
+  is-reached (refused k p) q e = let z : _≡_ {A = ℕ} 0 1 = cc in absurd (omega arith)
+
+  reaches : Decides (reaches-old which m s) Reached
+  unfolding reaches-old
+  reaches =
+      record {
+        then-holds = is-reached (operation (read-opening which) m s) refl;
+        holds-then = λ h. rw (first-refusal (opening-goes which) m s .accepts (h .0)) (rw (h .1) (equal-same _));
+      }
 
 module _ (n : ℕ) (m : List ℕ) (s : ℕ) where
   fits : s ≤ length m → s + n ≤ length m → at (read n) m s ≡ read-at n m s
@@ -133,6 +154,7 @@ pinned =
       one-two = one-two;
       frames = frames;
       frames-tested = frames-tested;
+      reaches = reaches;
       maximum = λ n max. record { then-holds = is-leb n max; holds-then = leb-is n max };
       no-maximum = λ n. refl;
       first-check = λ checks k. record { onward = first-fails checks k; back = fails-first checks k };

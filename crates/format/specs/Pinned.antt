@@ -11,14 +11,16 @@ use lib.ListN.{length, getD}
 use Rattle.format.specs.Read.{at, addressable}
 use Rattle.format.specs.Serialize.{read, read-at, every, number, write-uint16, write-uint32, same-bytes}
 use Rattle.format.specs.Utf8.{Range, has, rows, valid-utf8-seq}
-use Rattle.format.specs.Shared.{one-or-two, SuiteRow, row, suites, suite-version, known, frame-fits}
+use Rattle.format.specs.Shared.{by, one-or-two, SuiteRow, row, suites, suite-version, known, frame-fits}
 use Rattle.format.specs.Fields.{Pair, PairAt, pair-of, EncryptedDataKey}
 use Rattle.format.specs.Context.{seen, linear-length, write-aad-pairs}
 use Rattle.format.specs.Keys.{Max, no-max, at-most, within, write-encrypted-data-keys}
 use Rattle.format.specs.Body.{Which, either, tests-frames}
 use Rattle.format.specs.Checks.{Check, first}
-use Rattle.format.specs.Lent.{table-checks}
-use Rattle.format.specs.Demand3.{Has}
+use Rattle.format.specs.Lent.{bytes-at, table-checks}
+use Rattle.format.specs.Places.{number8}
+use Rattle.format.specs.First.{NoneApplies, operation-list, opening-list}
+use Rattle.format.specs.Demand3.{reaches-old, Has}
 use Rattle.format.specs.Characters.{Characters}
 use Rattle.format.specs.Lengths.{JustWhere, Lengths}
 
@@ -90,6 +92,10 @@ pub record Pinned : Type 0 where
   pub frames : (content frame : ℕ) → Decides (frame-fits content frame) (((content ≡ 1) × (frame ≡ 0)) ⊎ ((content ≡ 2) × (0 < frame)))
   -- and only the either-version reader tests it
   pub frames-tested : (which : Which) → Decides (tests-frames which) (which ≡ either)
+  -- the context section that a body reader reaches is 00 02 00 00: no refusal listed before the section's applies, and those are the
+  -- bytes that stand 20 or 35 behind the start
+  pub reaches : (which : Which) (m : List ℕ) (s : ℕ)
+      → Decides (reaches-old which m s) (NoneApplies (operation-list (opening-list which) m s) × (bytes-at m (s + by (number8 m s) 20 35) 4 ≡ (0x00 ∷ 0x02 ∷ 0x00 ∷ 0x00 ∷ [])))
   -- a maximum is passed by a count above it
   pub maximum : (n max : ℕ) → Decides (within n (at-most max)) (n ≤ max)
   pub no-maximum : (n : ℕ) → within n no-max ≡ true
