@@ -1,5 +1,6 @@
 -- Where two refusals apply, the first listed is answered: messages and fields with two faults, one behind the other in the order of
--- the tests, in one table with one statement. Examples beside the order that `specs/First` of `format` states. Assumes nothing.
+-- the tests, in one table with one statement. Of readers these are examples of the lists in Rattle.format.specs.First; of writers,
+-- whose lists are their definitions, they pin the order. Assumes nothing.
 use mathlib.Core.Path.{_≡_, refl}
 use mathlib.Core.Bool.{Bool, true, false}
 use mathlib.Core.Option.{Option, none, some}

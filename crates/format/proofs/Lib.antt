@@ -28,4 +28,5 @@ pub mod Grammar
 pub mod Characters
 pub mod Lengths
 pub mod Tables
+pub mod Filled
 pub mod Pinned

@@ -7,6 +7,7 @@ use Prim.Native.Nat.{ℕ, zero, suc, _+_, _*_, _/_, _%_, _≤_, _<_}
 use native.Mathlib.Omega.{arith}
 use lib.Dec.{leb, eqb}
 use lib.ListN.{length, drop, length-drop}
+use lib.Seq.{take-append-seam, drop-append-seam}
 use Rattle.format.specs.Shared.{by, one-or-two, frame-fits}
 use Rattle.format.specs.Read.{Answer, accepted, refused, at, addressable, operation}
 use Rattle.format.specs.Serialize.{read, read-at, write-uint16, write-uint32, images}
@@ -27,6 +28,7 @@ use Rattle.format.proofs.Characters.{to-characters, to-octets}
 use Rattle.format.proofs.Suites.{in-a-row, row-of, no-third, committing, eleven}
 use Rattle.format.proofs.Context.{length-pairs}
 use Rattle.format.proofs.Tables.{tables}
+use Rattle.format.proofs.Filled.{pair-table, key-table}
 use Rattle.format.proofs.Lengths.{lengths}
 use Rattle.format.proofs.FirstBody.{opening-goes, first-refusal, none-applied}
 use Rattle.format.proofs.Find.{same-equal, equal-same, seen-has, has-seen}
@@ -159,6 +161,10 @@ pinned =
       no-maximum = λ n. refl;
       first-check = λ checks k. record { onward = first-fails checks k; back = fails-first checks k };
       tables = tables;
+      pair-table = pair-table;
+      key-table = key-table;
+      in-front = λ front lent. take-append-seam front (drop (length front) lent);
+      beyond = λ front lent. drop-append-seam front (drop (length front) lent);
       pairs-take = length-pairs;
       lengths = lengths;
       pairs-join = pairs-join;

@@ -7,20 +7,20 @@ use mathlib.Core.Option as option
 use mathlib.Core.List.{List, [], _∷_, _++_, map, List·Memᴰ}
 use Prim.Native.Nat.{ℕ, _+_, _*_, _/_, _%_, _≤_, _<_}
 use lib.Dec.{leb}
-use lib.ListN.{length, getD}
+use lib.ListN.{length, getD, take, drop}
 use Rattle.format.specs.Read.{at, addressable}
-use Rattle.format.specs.Serialize.{read, read-at, every, number, write-uint16, write-uint32, same-bytes}
+use Rattle.format.specs.Serialize.{read, read-at, images, every, number, write-uint16, write-uint32, same-bytes}
 use Rattle.format.specs.Utf8.{Range, has, rows, valid-utf8-seq}
 use Rattle.format.specs.Shared.{by, one-or-two, SuiteRow, row, suites, suite-version, known, frame-fits}
-use Rattle.format.specs.Fields.{Pair, PairAt, pair-of, EncryptedDataKey}
+use Rattle.format.specs.Fields.{Pair, PairAt, pair-of, pair-places, EncryptedDataKey, EncryptedDataKeyAt, key-of, key-places}
 use Rattle.format.specs.Context.{seen, linear-length, write-aad-pairs}
 use Rattle.format.specs.Keys.{Max, no-max, at-most, within, write-encrypted-data-keys}
 use Rattle.format.specs.Body.{Which, either, tests-frames}
 use Rattle.format.specs.Checks.{Check, first}
-use Rattle.format.specs.Lent.{bytes-at, table-checks}
+use Rattle.format.specs.Lent.{bytes-at, filled, pair-numbers, key-numbers, items, pair-in, key-in, table-checks}
 use Rattle.format.specs.Places.{number8}
 use Rattle.format.specs.First.{NoneApplies, operation-list, opening-list}
-use Rattle.format.specs.Demand3.{reaches-old, Has}
+use Rattle.format.specs.Demand3.{Held, Each, reaches-old, Has}
 use Rattle.format.specs.Characters.{Characters}
 use Rattle.format.specs.Lengths.{JustWhere, Lengths}
 
@@ -103,6 +103,11 @@ pub record Pinned : Type 0 where
   pub first-check : (checks : List Check) (k : ℕ) → JustWhere (first checks ≡ option.some k) (FirstFails checks k)
   -- 26
   pub tables : (k : ℕ) (text table : List ℕ) → JustWhere (first (table-checks k text table) ≡ option.none) (InText k text table)
+  -- a reader's table, read as a writer reads it, has the bytes of what the reader gave; what lies behind its numbers keeps
+  pub pair-table : (m table : List ℕ) (ps : List PairAt) → Each (Held m) (images pair-places ps) → items (pair-in m (filled (pair-numbers ps) table)) 4 (length ps) 0 ≡ map pair-of ps
+  pub key-table : (m table : List ℕ) (ks : List EncryptedDataKeyAt) → Each (Held m) (images key-places ks) → items (key-in m (filled (key-numbers ks) table)) 6 (length ks) 0 ≡ map key-of ks
+  pub in-front : (front lent : List ℕ) → take (length front) (filled front lent) ≡ front
+  pub beyond : (front lent : List ℕ) → drop (length front) (filled front lent) ≡ drop (length front) lent
   -- what pairs take is what their entries take
   pub pairs-take : (ps : List Pair) → length (write-aad-pairs ps) ≡ linear-length ps
   -- the lengths
