@@ -7,23 +7,24 @@ use mathlib.Core.List.{List}
 use lib.ListN.{length}
 use Rattle.format.specs.Read.{Answer, accepted, refused, operation}
 use Rattle.format.specs.Serialize.{Bytes}
-use Rattle.format.specs.Fields.{Fields}
+use Rattle.format.specs.Fields.{Fields, fields-of}
 use Rattle.format.specs.Fields.{HeaderBody as BodyRead}
 use Rattle.format.specs.Context.{Form, Mode, tolerant, strict}
 use Rattle.format.specs.Keys.{Max}
 use Rattle.format.specs.Body.{Which, either, tests-frames, request, read-body, read-header-body}
 use Rattle.format.specs.Places.{body-here, body-end}
 use Rattle.format.specs.First.{FirstApplies, FirstRefusal, body-list}
-use Rattle.format.specs.Demand3.{Stands, reaches-old}
+use Rattle.format.specs.Demand3.{Stands, Gives, reaches-old}
 use Rattle.format.proofs.FirstBody.{first-refusals}
+use Rattle.format.proofs.Filled.{pair-table, key-table}
 use Rattle.format.proofs.Demand3.{demand-3}
 use Rattle.wire.specs.Codes.{because}
 use Rattle.wire.specs.declared.Refusal.{Refusal}
-use Rattle.body_reader.specs.Codes.{body-of}
+use Rattle.body_reader.specs.Codes.{body-code, body-of}
 use Rattle.body_reader.specs.declared.HeaderBody.{HeaderBody}
 use Rattle.body_reader.specs.declared.HeaderBodyAnswer.{HeaderBodyAnswer}
 use Rattle.body_reader.specs.declared.HeaderBodyAnswer.the-variants.{Accepted, Refused}
-use Rattle.promises.specs.Reader.{Call, reading, Meets, Accepts, Refuses, Listed, Sentence1, Sentence2, Sentence3, ReaderPromises}
+use Rattle.promises.specs.Reader.{Call, reading, Meets, Accepts, GivesFields, Refuses, Listed, Sentence1, Sentence2, Sentence3, ReaderPromises}
 
 module _ (c : Call) (o : Answer BodyRead) (call : Meets o c) where
   pub accepts : (b : BodyRead) (t : ℕ) → o ≡ accepted b t → Accepts c b t
@@ -31,6 +32,26 @@ module _ (c : Call) (o : Answer BodyRead) (call : Meets o c) where
 
   refuses : (k p : ℕ) → o ≡ refused k p → Refuses c k p
   refuses k p e = record { answer = rw e at (call .answer); pairTable = rw e at (call .pairTable); keyTable = rw e at (call .keyTable) }
+
+module _ (m : List ℕ) (c : Call) (b : BodyRead) (f : Fields) (t : ℕ) (given : Gives m b f) (call : Accepts c b t) where
+  gives-fields : GivesFields m c (body-code b) f
+  unfolding fields-of
+  gives-fields =
+      record {
+        version = ap (λ (y : Fields). y .version) (given .fields);
+        messageType = ap (λ (y : Fields). y .messageType) (given .fields);
+        suite = ap (λ (y : Fields). y .suite) (given .fields);
+        contentType = ap (λ (y : Fields). y .contentType) (given .fields);
+        headerIvLength = ap (λ (y : Fields). y .headerIvLength) (given .fields);
+        frameLength = ap (λ (y : Fields). y .frameLength) (given .fields);
+        messageId = given .placed .messageId ∙ ap (λ (y : Fields). y .messageId) (given .fields);
+        pairs = rw (call .pairTable) (pair-table m (c .pairs) (b .pairs) (given .placed .pairs) ∙ ap (λ (y : Fields). y .pairs) (given .fields));
+        keys = rw (call .keyTable) (key-table m (c .keys) (b .keys) (given .placed .keys) ∙ ap (λ (y : Fields). y .keys) (given .fields));
+        suiteData = given .placed .suiteData ∙ ap (λ (y : Fields). y .suiteData) (given .fields);
+      }
+
+  gives-record : (x : HeaderBody) → c .answer ≡ Accepted x t → GivesFields m c x f
+  gives-record x e = let a : c .answer ≡ Accepted (body-code b) t = call .answer in let z : body-code b ≡ x = cc in rw (← z) gives-fields
 
 accepted-is : (r : HeaderBodyAnswer) (o : Answer BodyRead) → r ≡ body-of o → (x : HeaderBody) (t : ℕ) → r ≡ Accepted x t → (b : BodyRead) × (o ≡ accepted b t)
 accepted-is r (accepted b u) e x t f = (b, ap (accepted b) (cc))
@@ -64,8 +85,9 @@ module _ (max : Max) (m : List ℕ) (s : ℕ) (c : Call) (bytes : Bytes m) (call
         only = λ h x tail e.
             (let (b, q) = accepted-is (c .answer) said (call .answer) x tail e in
             let y = law .only h b tail q in
-            (y .0, y .1, b, y .2, y .3, accepts c said call b tail q, y .4));
-        all = λ h form f e. (let y = law .all h form f e in (y .0, accepts c said call (y .0) _ (y .1), y .2));
+            let a = accepts c said call b tail q in
+            (y .0, y .1, b, y .2, y .3, a, y .4, gives-record m c b (y .1) tail (y .3) a x e));
+        all = λ h form f e. (let y = law .all h form f e in let a = accepts c said call (y .0) _ (y .1) in (y .0, a, y .2, gives-fields m c (y .0) f _ (y .2) a));
         otherwise = λ h none. (let y = law .otherwise h none in (y .0, y .1, refuses c said call (y .0) (y .1) (y .2), y .3));
         longer = λ h. refuses c said call 1 0 (law .longer h);
         farther = λ h. refuses c said call 1 0 (law .farther h);

@@ -12,7 +12,7 @@ use Rattle.format.specs.Fields.{HeaderBody as BodyRead}
 use Rattle.format.specs.Context.{Form, Mode, tolerant, strict}
 use Rattle.format.specs.Keys.{Max}
 use Rattle.format.specs.Body.{Which, either, v1-only, v2-only, tests-frames, request, read-header-body, read-header-body-untested, image}
-use Rattle.format.specs.Lent.{filled, pair-numbers, key-numbers}
+use Rattle.format.specs.Lent.{bytes-at, filled, pair-numbers, key-numbers, items, pair-in, key-in}
 use Rattle.format.specs.Places.{body-here, body-end}
 use Rattle.format.specs.First.{FirstApplies, NoneApplies, Line, operation-list, body-list}
 use Rattle.format.specs.Demand3.{Stands, Gives, reaches-old, stands-at}
@@ -45,6 +45,19 @@ pub record Accepts (c : Call) (b : BodyRead) (tail : ℕ) : Type 0 where
   pub pairTable : c .pairs′ ≡ filled (pair-numbers (b .pairs)) (c .pairs)
   pub keyTable : c .keys′ ≡ filled (key-numbers (b .keys)) (c .keys)
 
+-- the code's record gives the fields: its numbers and counts are theirs, and so are the bytes at its places and at those in the tables
+pub record GivesFields (m : List ℕ) (c : Call) (x : HeaderBody) (f : Fields) : Type 0 where
+  pub version : x .numbers .version ≡ f .version
+  pub messageType : x .numbers .messageType ≡ f .messageType
+  pub suite : x .numbers .suite ≡ f .suite
+  pub contentType : x .numbers .contentType ≡ f .contentType
+  pub headerIvLength : x .numbers .headerIvLength ≡ f .headerIvLength
+  pub frameLength : x .numbers .frameLength ≡ f .frameLength
+  pub messageId : bytes-at m (x .messageIdStart) (x .messageIdLen) ≡ f .messageId
+  pub pairs : items (pair-in m (c .pairs′)) 4 (x .pairCount) 0 ≡ f .pairs
+  pub keys : items (key-in m (c .keys′)) 6 (x .keyCount) 0 ≡ f .keys
+  pub suiteData : bytes-at m (x .suiteDataStart) (x .suiteDataLen) ≡ f .suiteData
+
 -- it refuses, and the tables are as they were
 pub record Refuses (c : Call) (number position : ℕ) : Type 0 where
   pub answer : c .answer ≡ Refused (because number position)
@@ -64,9 +77,9 @@ pub record Listed (which : Which) (mode : Mode) (max : Max) (m : List ℕ) (s : 
 -- SENTENCE 1, of the tolerant either-version reader
 pub record Sentence1 (max : Max) (m : List ℕ) (s : ℕ) (c : Call) : Type 0 where
   pub only : length m ≤ 4294967295 → (x : HeaderBody) (tail : ℕ) → c .answer ≡ Accepted x tail
-      → (form : Form) × (f : Fields) × (b : BodyRead) × Stands max (length (c .pairs)) (length (c .keys)) m s form f × Gives m b f × Accepts c b tail × (tail ≡ s + length (image form f))
+      → (form : Form) × (f : Fields) × (b : BodyRead) × Stands max (length (c .pairs)) (length (c .keys)) m s form f × Gives m b f × Accepts c b tail × (tail ≡ s + length (image form f)) × GivesFields m c x f
   pub all : length m ≤ 4294967295 → (form : Form) (f : Fields) → Stands max (length (c .pairs)) (length (c .keys)) m s form f
-      → (b : BodyRead) × Accepts c b (s + length (image form f)) × Gives m b f
+      → (b : BodyRead) × Accepts c b (s + length (image form f)) × Gives m b f × GivesFields m c (body-code b) f
   pub otherwise : length m ≤ 4294967295 → ((form : Form) (f : Fields) → Stands max (length (c .pairs)) (length (c .keys)) m s form f → ⊥)
       → (k : ℕ) × (p : ℕ) × Refuses c k p × FirstApplies (listed either tolerant max m s c) k p
   pub longer : 4294967295 < length m → Refuses c 1 0
