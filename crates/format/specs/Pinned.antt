@@ -1,5 +1,6 @@
 -- Demand 3 has some tests on both of its sides, so a wrong one would still satisfy it: UTF-8, key seen before, known suites, frame
--- length against content type and who tests it, the reach of 1, which of a writer's checks is the first to fail, lengths. Here each is held to a statement of its own; they are proved in proofs/Pinned. Assumes nothing.
+-- length against content type and who tests it, the reach of 1, which of a writer's checks fails first, lengths. Here each is held to
+-- a statement of its own; they are proved in proofs/Pinned. Assumes nothing.
 use mathlib.Core.Path.{_≡_}
 use mathlib.Core.Bool.{Bool, true, false, cond}
 use mathlib.Core.Logic.{_⊎_}
