@@ -11,10 +11,11 @@ use Rattle.format.specs.Fields.{HeaderBody as BodyRead}
 use Rattle.format.specs.Context.{tolerant}
 use Rattle.format.specs.Keys.{Max, within}
 use Rattle.format.specs.Body.{either}
-use Rattle.format.specs.Lent.{filled, refusal-of, written-of, output-of, writing-header-body}
+use Rattle.format.specs.Lent.{filled, Writing, refusal-of, written-of, output-of, writing-header-body}
 use Rattle.format.specs.Demand3.{Gives}
 use Rattle.format.specs.Demand3.{Sentence4 as Sentence4Defined}
 use Rattle.format.proofs.Demand3.{demand-3}
+use Rattle.format.proofs.Pinned.{pinned}
 use Rattle.wire.specs.Codes.{because}
 use Rattle.wire.specs.declared.Refusal.{Refusal}
 use Rattle.checks.specs.Answers.{write-answer-of, Writes}
@@ -22,12 +23,45 @@ use Rattle.checks.specs.declared.WriteAnswer.{WriteAnswer}
 use Rattle.checks.specs.declared.WriteAnswer.the-variants.{Written, Refused}
 use Rattle.body_write.specs.Lent.{body-to-write}
 use Rattle.promises.specs.Reader.{Call, reading, Meets, Accepts}
-use Rattle.promises.specs.Writer.{Write, lent, fields, its-image, MeetsWriter, NoneApplies, Sentence4, WriterPromises}
+use Rattle.promises.specs.Writer.{all-checks, ByChecks, Write, lent, fields, its-image, MeetsWriter, NoneApplies, Sentence4, WriterPromises}
 use Rattle.promises.proofs.Reader.{accepts}
 
 written-is : (r : WriteAnswer) (o : Answer (Unit {0})) → r ≡ write-answer-of o → (n : ℕ) → r ≡ Written n → o ≡ accepted tt n
 written-is r (accepted u m) e n f = let z : m ≡ n = cc in rw z refl
 written-is r (refused k p) e n f = let z : _≡_ {A = ℕ} 0 1 = cc in absurd (omega arith)
+
+-- every writer: by the first of its checks that fails
+module _ (w : Writing) (before after : List ℕ) (r : WriteAnswer) (call : Writes w before after r) where
+  -- by what its checks find
+  of-none : (x : Option ℕ) → r ≡ write-answer-of (written-of x (w .image)) → after ≡ output-of x (w .image) before → x ≡ none → (r ≡ Written (length (w .image))) × (after ≡ filled (w .image) before)
+  of-none none e o f = (e, o)
+  of-none (some k) e o f = let z : _≡_ {A = ℕ} 0 1 = cc in absurd (omega arith)
+
+  of-written : (x : Option ℕ) → r ≡ write-answer-of (written-of x (w .image)) → after ≡ output-of x (w .image) before → (n : ℕ) → r ≡ Written n
+      → (x ≡ none) × (n ≡ length (w .image)) × (after ≡ filled (w .image) before)
+  of-written none e o n f = (refl, cc, o)
+  of-written (some k) e o n f = let z : _≡_ {A = ℕ} 0 1 = cc in absurd (omega arith)
+
+  of-refused : (x : Option ℕ) → r ≡ write-answer-of (written-of x (w .image)) → after ≡ output-of x (w .image) before → (q : Refusal) → r ≡ Refused q
+      → (x ≡ some (q .number)) × (q .position ≡ 0) × (after ≡ before)
+  of-refused none e o q f = let z : _≡_ {A = ℕ} 0 1 = cc in absurd (omega arith)
+  of-refused (some k) e o q f = let z : because k 0 ≡ q = cc in (ap some (ap (λ (y : Refusal). y .number) z), sym (ap (λ (y : Refusal). y .position) z), o)
+
+  of-some : (x : Option ℕ) → r ≡ write-answer-of (written-of x (w .image)) → after ≡ output-of x (w .image) before → (k : ℕ) → x ≡ some k → (r ≡ Refused (because k 0)) × (after ≡ before)
+  of-some none e o k f = let z : _≡_ {A = ℕ} 0 1 = cc in absurd (omega arith)
+  of-some (some j) e o k f = let z : j ≡ k = cc in (rw z at e, o)
+
+  pub by-checks : ByChecks w before after r
+  unfolding refusal-of
+  by-checks =
+      let x = refusal-of w before in
+      let first-law = pinned .first-check (all-checks w before) in
+      record {
+        writes = λ e. of-none x (call .answer) (call .output) e;
+        only-then = λ n e. of-written x (call .answer) (call .output) n e;
+        refuses = λ q e. (let (a, p, o) = of-refused x (call .answer) (call .output) q e in (first-law (q .number) .onward a, p, o));
+        fails = λ k f. of-some x (call .answer) (call .output) k (first-law k .back f);
+      }
 
 module _ (w : Write) (wide : w .numbers .frameLength < 4294967296) (call : MeetsWriter w) where
   law : Sentence4Defined (lent w) (w .before)
@@ -56,12 +90,6 @@ module _ (w : Write) (wide : w .numbers .frameLength < 4294967296) (call : Meets
       let (a, p, k, d, room, o) = law .only-then n wide-lent (written-is (w .answer) _ (call .answer) n e) in
       (record { accepts = a; pairs = p; keys = k; fits = rw d at room }, d, call .output ∙ o)
 
-  -- a writer's refusal is the first check that fails
-  refused-first : (x : Option ℕ) (image : List ℕ) (q : Refusal) → w .answer ≡ write-answer-of (written-of x image) → w .after ≡ output-of x image (w .before) → w .answer ≡ Refused q
-      → (x ≡ some (q .number)) × (q .position ≡ 0) × (w .after ≡ w .before)
-  refused-first none image q e o f = let z : _≡_ {A = ℕ} 0 1 = cc in absurd (omega arith)
-  refused-first (some k) image q e o f = let z : because k 0 ≡ q = cc in (ap some (ap (λ (y : Refusal). y .number) z), sym (ap (λ (y : Refusal). y .position) z), o)
-
   read-back : (n : ℕ) → w .answer ≡ Written n → length (w .before) ≤ 4294967295 → (max : Max) (c : Call) → Meets (reading either tolerant max (w .after) 0 c) c
       → 4 * length (fields w .pairs) ≤ length (c .pairs) → 6 * length (fields w .keys) ≤ length (c .keys) → within (length (fields w .keys)) max ≡ true
       → (b : BodyRead) × Accepts c b n × Gives (w .after) b (fields w)
@@ -74,9 +102,9 @@ module _ (w : Write) (wide : w .numbers .frameLength < 4294967296) (call : Meets
       record {
         writes = writes;
         only-then = only-then;
-        refuses = λ q e. refused-first (refusal-of (writing-header-body (lent w)) (w .before)) _ q (call .answer) (call .output) e;
+        checked = by-checks (writing-header-body (lent w)) (w .before) (w .after) (w .answer) call;
         read-back = read-back;
       }
 
 pub writer-promises : WriterPromises
-writer-promises = record { sentence-4 = sentence-4 }
+writer-promises = record { writers = by-checks; sentence-4 = sentence-4 }
