@@ -12,13 +12,12 @@ use Rattle.format.specs.Serialize.{Part, same-bytes}
 use Rattle.format.specs.Fields.{PairAt}
 use Rattle.format.specs.Context.{tolerant, read-aad-section, look-up, find-value}
 use Rattle.format.specs.Lent.{found-part}
-use Rattle.format.specs.Places.{number16, part-of, entry-here, entry-end}
+use Rattle.format.specs.Places.{number16, part-of, entry-here, entry-end, items-here, items-end, pair-here, pair-end, pairs-here, pairs-end}
 use Rattle.steps.proofs.Steps.{refused-is-none, go, stop, un-bind}
 use Rattle.steps.proofs.Numbers.{length-part}
 use Rattle.steps.proofs.Operations.{un-operation, operation-guarded, operation-reached}
 use Rattle.wire.specs.Codes.{because}
 use Rattle.wire.specs.declared.Refusal.{Refusal}
-use Rattle.format.specs.Places.{items-here, items-end, pair-here, pair-end, pairs-here, pairs-end}
 use Rattle.entries.specs.Codes.{EntryIs}
 use Rattle.entries.specs.declared.Entry.{Entry}
 use Rattle.entries.proofs.Items.{reach, end-step, here-step}

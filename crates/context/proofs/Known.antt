@@ -10,13 +10,12 @@ use Rattle.format.specs.Read.{accepted, at}
 use Rattle.format.specs.Serialize.{read-uint16, sum}
 use Rattle.format.specs.Fields.{PairAt, pair-of}
 use Rattle.format.specs.Context.{Mode, linear-length, read-aad-pair, read-next-aad-pair, read-aad, read-aad-of, read-aad-section}
-use Rattle.format.specs.Places.{number16, entry-end}
+use Rattle.format.specs.Places.{number16, entry-end, items-here, items-end, pair-here, pair-end, pairs-here, pairs-end}
 use Rattle.steps.proofs.Tidy.{Tidy, tidy, return-tidy, text-tidy, uint16-tidy}
 use Rattle.steps.proofs.Steps.{un-bind, un-test, un-return}
 use Rattle.steps.proofs.Frames.{un-frame}
 use Rattle.steps.proofs.Numbers.{length-part, uint16-known}
 use Rattle.steps.proofs.Entries.{text-known}
-use Rattle.format.specs.Places.{items-here, items-end, pair-here, pair-end, pairs-here, pairs-end}
 use Rattle.entries.proofs.Items.{reach}
 use Rattle.entries.proofs.Walk.{Known, Kind}
 use Rattle.entries.proofs.Sections.{Holds, all-hold}

@@ -11,7 +11,7 @@ use lib.ListN.{length}
 use Rattle.format.specs.Read.{accepted, repeat, at}
 use Rattle.format.specs.Fields.{PairAt, pair-of}
 use Rattle.format.specs.Context.{seen, linear-length, pair-length, read-text, read-aad-pair, read-next-aad-pair}
-use Rattle.format.specs.Places.{number16, entry-end}
+use Rattle.format.specs.Places.{number16, entry-end, items-end, pair-here, pair-end, pairs-here, pairs-end}
 use Rattle.steps.proofs.Tidy.{text-tidy}
 use Rattle.steps.proofs.Steps.{go, stop, pass, fail, gives}
 use Rattle.steps.proofs.Numbers.{length-part}
@@ -21,7 +21,6 @@ use Rattle.wire.specs.declared.Span.{Span}
 use Rattle.wire.specs.declared.Span.the-variants as span
 use Rattle.wire.proofs.Answers.{span-no}
 use Rattle.wire.proofs.Stood.{Stood, text-stood}
-use Rattle.format.specs.Places.{items-end, pair-here, pair-end, pairs-here, pairs-end}
 use Rattle.entries.specs.Codes.{next-of}
 use Rattle.entries.specs.declared.Next.{Next}
 use Rattle.entries.specs.declared.Next.the-variants as next

@@ -11,10 +11,9 @@ use lib.Seq.{sets, sets-eq, length-sets}
 use Rattle.format.specs.Read.{Reader, Answer, accepted, refused, at, addressable, operation}
 use Rattle.format.specs.Serialize.{Part, images}
 use Rattle.format.specs.Lent.{place, filled, table-after}
-use Rattle.format.specs.Places.{number16, entry-here, entry-end}
+use Rattle.format.specs.Places.{number16, entry-here, entry-end, items-here, entries-here, entries-end}
 use Rattle.steps.proofs.Numbers.{length-part}
 use Rattle.steps.proofs.Operations.{operation-guarded, operation-reached}
-use Rattle.format.specs.Places.{items-here, entries-here, entries-end}
 use Rattle.entries.specs.Codes.{EntryIs, Reads}
 use Rattle.entries.specs.declared.Entry.{Entry}
 use Rattle.entries.proofs.Items.{reach, end-step, here-length, here-step}

@@ -10,8 +10,7 @@ ghost use lib.ListN.{length};
 ghost use lib.Seq.{sets};
 ghost use Rattle.format.specs.Serialize.{images};
 ghost use Rattle.format.specs.Lent.{place, filled};
-ghost use Rattle.format.specs.Places.{entry-end};
-ghost use Rattle.format.specs.Places.{entries-here, entries-end};
+ghost use Rattle.format.specs.Places.{entry-end, entries-here, entries-end};
 ghost use Rattle.entries.specs.Codes.{why-next, EntryIs};
 
 // The place behind what was read, or the refusal.

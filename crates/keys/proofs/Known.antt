@@ -7,12 +7,11 @@ use Rattle.format.specs.Read.{accepted, at}
 use Rattle.format.specs.Serialize.{Part}
 use Rattle.format.specs.Fields.{EncryptedDataKeyAt}
 use Rattle.format.specs.Keys.{Max, read-encrypted-data-key, read-encrypted-data-keys-section}
-use Rattle.format.specs.Places.{entry-here, entry-end}
+use Rattle.format.specs.Places.{entry-here, entry-end, key-here, key-end}
 use Rattle.steps.proofs.Tidy.{Tidy, tidy, uint16-tidy, entry-tidy, text-tidy}
 use Rattle.steps.proofs.Steps.{un-bind, un-test, un-return}
 use Rattle.steps.proofs.Numbers.{uint16-known}
 use Rattle.steps.proofs.Entries.{entry-known, text-known}
-use Rattle.format.specs.Places.{key-here, key-end}
 use Rattle.entries.proofs.Walk.{Known, Kind}
 use Rattle.entries.proofs.Sections.{Holds, all-hold}
 use Rattle.keys.specs.Codes.{any-key}

@@ -9,10 +9,9 @@ use mir.Val.{Fits}
 use lib.ListN.{length, getD}
 use Rattle.format.specs.Fields.{pair-of}
 use Rattle.format.specs.Lent.{bytes-at}
-use Rattle.format.specs.Places.{entry-end}
+use Rattle.format.specs.Places.{entry-end, items-here, pair-here, pair-end, pairs-here, pairs-end}
 use Rattle.comparing.specs.Order.{compare-bytes}
 use Rattle.comparing.specs.declared.Order.{Order}
-use Rattle.format.specs.Places.{items-here, pair-here, pair-end, pairs-here, pairs-end}
 use Rattle.entries.specs.Codes.{EntryIs}
 use Rattle.entries.specs.declared.Entry.{Entry}
 use Rattle.entries.proofs.Items.{here-snoc}

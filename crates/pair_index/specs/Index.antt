@@ -8,8 +8,7 @@ use lib.ListN.{length}
 use Rattle.format.specs.Fields.{Pair, pair-of}
 use Rattle.format.specs.Context.{seen}
 use Rattle.format.specs.Lent.{bytes-at}
-use Rattle.format.specs.Places.{number16, entry-end}
-use Rattle.format.specs.Places.{pairs-here, pairs-end}
+use Rattle.format.specs.Places.{number16, entry-end, pairs-here, pairs-end}
 use Rattle.index.specs.Index as ordered
 
 -- the key of the pair at a place
