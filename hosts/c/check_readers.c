@@ -3,8 +3,8 @@
  * that it was lent, with what document 01 says. Writes `compared N cases`; a difference is written to standard error, and the exit
  * status is 1. check_writers.c does the same for what writes, and for reading authentication records.
  *
- *     rt staticlib header_c
- *     gcc -std=c99 -O2 -Wall -Wextra -Iinclude hosts/c/check_readers.c target/staticlib/libheader_c.a -o target/check_readers
+ *     rt staticlib bafirolen_c
+ *     gcc -std=c99 -O2 -Wall -Wextra -Iinclude hosts/c/check_readers.c target/staticlib/libbafirolen_c.a -o target/check_readers
  */
 #include "compare.h"
 
@@ -13,12 +13,12 @@ static void read_as(const char *what, const uint8_t *m, size_t n, uint64_t start
                     uint64_t position)
 {
     static const uint64_t none[15];
-    HeaderBody b;
+    BafirolenBody b;
     fresh();
-    b = header_read_header_body(m, n, start, (uint8_t)q[0], (uint8_t)q[1], (uint8_t)q[2], q[3], pairs, q[4], keys, q[5]);
+    b = bafirolen_read_header_body(m, n, start, (uint32_t)q[0], (uint32_t)q[1], (uint32_t)q[2], q[3], pairs, q[4], keys, q[5]);
     same(what, b.number, number);
     same(what, b.position, position);
-    if (number != HEADER_ACCEPTED) {
+    if (number != BAFIROLEN_ACCEPTED) {
         b.number = b.position = 0;
         body_is(what, b, none);
         table_is(what, pairs, fresh_numbers, 0);
@@ -34,40 +34,40 @@ static void read_bodies(void)
     static const uint64_t no_key[6] = {0, 0, 1, 0, 4, 6}, one_key[6] = {0, 1, 255, 1, 4, 6};
     struct {
         uint64_t before;
-        HeaderBody body;
+        BafirolenBody body;
         uint64_t after;
     } guarded = {KEPT, {0, 0, {0, 0, 0, 0, 0, 0}, 0, 0, 0, 0, 0, 0, 0}, KEPT};
     fresh();
-    guarded.body = header_read_header_body(H, 58, 0, 0, 0, 0, 0, pairs, NUMBERS, keys, NUMBERS);
+    guarded.body = bafirolen_read_header_body(H, 58, 0, 0, 0, 0, 0, pairs, NUMBERS, keys, NUMBERS);
     body_is("H", guarded.body, want);
     same("around H", guarded.before == KEPT && guarded.after == KEPT, 1);
     table_is("H's pairs", pairs, H_pairs, 4);
     table_is("H's keys", keys, H_keys, 6);
-    read_as("H cut to 57", H, 57, 0, plain, HEADER_SHORTAGE, 58);
-    read_as("H cut to 22", H, 22, 0, plain, HEADER_SHORTAGE, 34);
-    read_as("start 70", H, 58, 70, plain, HEADER_SHORTAGE, 71);
-    read_as("the empty message", H, 0, 0, plain, HEADER_SHORTAGE, 1);
-    read_as("a start of 33 bits", H, 58, 4294967296u, plain, HEADER_NOT_ADDRESSABLE, 0);
-    read_as("H at 1", H, 58, 1, plain, HEADER_VERSION, 0);
-    read_as("version 1 only", H, 58, 0, one, HEADER_ACCEPTED, 0);
-    read_as("version 2 only", H, 58, 0, two, HEADER_OTHER_VERSION, 0);
-    read_as("another number", H, 58, 0, other, HEADER_OTHER_VERSION, 0);
-    read_as("no key", H, 58, 0, no_key, HEADER_TOO_MANY_KEYS, 0);
-    read_as("one key", H, 58, 0, one_key, HEADER_ACCEPTED, 0);
-    read_as("a pair table of 3", H, 58, 0, few_pairs, HEADER_PAIR_TABLE_TOO_SHORT, 0);
-    read_as("a key table of 5", H, 58, 0, few_keys, HEADER_KEY_TABLE_TOO_SHORT, 0);
+    read_as("H cut to 57", H, 57, 0, plain, BAFIROLEN_SHORTAGE, 58);
+    read_as("H cut to 22", H, 22, 0, plain, BAFIROLEN_SHORTAGE, 34);
+    read_as("start 70", H, 58, 70, plain, BAFIROLEN_SHORTAGE, 71);
+    read_as("the empty message", H, 0, 0, plain, BAFIROLEN_SHORTAGE, 1);
+    read_as("a start of 33 bits", H, 58, 4294967296u, plain, BAFIROLEN_NOT_ADDRESSABLE, 0);
+    read_as("H at 1", H, 58, 1, plain, BAFIROLEN_UNKNOWN_VERSION, 0);
+    read_as("version 1 only", H, 58, 0, one, BAFIROLEN_ACCEPTED, 0);
+    read_as("version 2 only", H, 58, 0, two, BAFIROLEN_OTHER_VERSION, 0);
+    read_as("another number", H, 58, 0, other, BAFIROLEN_ACCEPTED, 0);
+    read_as("no key", H, 58, 0, no_key, BAFIROLEN_TOO_MANY_KEYS, 0);
+    read_as("one key", H, 58, 0, one_key, BAFIROLEN_ACCEPTED, 0);
+    read_as("a pair table of 3", H, 58, 0, few_pairs, BAFIROLEN_PAIR_TABLE_TOO_SHORT, 0);
+    read_as("a key table of 5", H, 58, 0, few_keys, BAFIROLEN_KEY_TABLE_TOO_SHORT, 0);
 }
 
 static void numbers_and_positions(void)
 {
-    same("number of H", header_number(H, 58, 0), 0);
-    same("position of H", header_position(H, 58, 0), 58);
-    same("number of H cut", header_number(H, 57, 0), HEADER_SHORTAGE);
-    same("position of H cut", header_position(H, 57, 0), 58);
-    same("number at 70", header_number(H, 58, 70), HEADER_SHORTAGE);
-    same("position at 70", header_position(H, 58, 70), 71);
-    same("number of a long start", header_number(H, 58, UINT64_MAX), HEADER_NOT_ADDRESSABLE);
-    same("position of a long start", header_position(H, 58, UINT64_MAX), 0);
+    same("number of H", bafirolen_header_number(H, 58, 0), 0);
+    same("position of H", bafirolen_header_position(H, 58, 0), 58);
+    same("number of H cut", bafirolen_header_number(H, 57, 0), BAFIROLEN_SHORTAGE);
+    same("position of H cut", bafirolen_header_position(H, 57, 0), 58);
+    same("number at 70", bafirolen_header_number(H, 58, 70), BAFIROLEN_SHORTAGE);
+    same("position at 70", bafirolen_header_position(H, 58, 70), 71);
+    same("number of a long start", bafirolen_header_number(H, 58, UINT64_MAX), BAFIROLEN_NOT_ADDRESSABLE);
+    same("position of a long start", bafirolen_header_position(H, 58, UINT64_MAX), 0);
 }
 
 static void sections(void)
@@ -77,43 +77,43 @@ static void sections(void)
     } rows[] = {
         {{0}, 2, 0, 0, 0, 0, 2},
         {{0, 2}, 4, 0, 0, 0, 0, 4},
-        {{0, 2}, 4, 1, HEADER_OLD_EMPTY_CONTEXT, 0, 0, 0},
-        {{0, 2}, 4, 255, HEADER_OLD_EMPTY_CONTEXT, 0, 0, 0},
-        {{0, 2, 0, 1}, 4, 0, HEADER_COUNT_IN_EMPTY_CONTEXT, 0, 0, 0},
-        {{0, 3}, 5, 0, HEADER_NO_COUNT_IN_CONTEXT, 0, 0, 0},
-        {{0, 1}, 3, 0, HEADER_SHORTAGE, 4, 0, 0},
-        {{0, 1}, 4, 0, HEADER_NO_COUNT_IN_CONTEXT, 0, 0, 0},
+        {{0, 2}, 4, 1, BAFIROLEN_OLD_EMPTY_CONTEXT, 0, 0, 0},
+        {{0, 2}, 4, 255, BAFIROLEN_OLD_EMPTY_CONTEXT, 0, 0, 0},
+        {{0, 2, 0, 1}, 4, 0, BAFIROLEN_COUNT_IN_EMPTY_CONTEXT, 0, 0, 0},
+        {{0, 3}, 5, 0, BAFIROLEN_NO_COUNT_IN_CONTEXT, 0, 0, 0},
+        {{0, 1}, 3, 0, BAFIROLEN_SHORTAGE, 4, 0, 0},
+        {{0, 1}, 4, 0, BAFIROLEN_NO_COUNT_IN_CONTEXT, 0, 0, 0},
         {{0, 6, 0, 1}, 8, 0, 0, 0, 1, 8},
-        {{0, 10, 0, 2}, 12, 0, HEADER_KEY_SEEN_BEFORE, 0, 0, 0},
-        {{0, 8, 0, 1, 0, 2, 0xC0, 0x80}, 10, 0, HEADER_KEY_NOT_UTF8, 0, 0, 0},
-        {{0, 4, 0, 1, 0, 5}, 6, 0, HEADER_SHORTAGE, 11, 0, 0},
-        {{0, 4, 0, 1, 0, 5, 0x61, 0x62, 0x63, 0x64, 0x65}, 13, 0, HEADER_CONTEXT_LENGTH, 0, 0, 0},
+        {{0, 10, 0, 2}, 12, 0, BAFIROLEN_KEY_SEEN_BEFORE, 0, 0, 0},
+        {{0, 8, 0, 1, 0, 2, 0xC0, 0x80}, 10, 0, BAFIROLEN_KEY_NOT_UTF8, 0, 0, 0},
+        {{0, 4, 0, 1, 0, 5}, 6, 0, BAFIROLEN_SHORTAGE, 11, 0, 0},
+        {{0, 4, 0, 1, 0, 5, 0x61, 0x62, 0x63, 0x64, 0x65}, 13, 0, BAFIROLEN_CONTEXT_LENGTH, 0, 0, 0},
     };
     static const uint32_t empty_pair[4] = {6, 0, 8, 0};
-    HeaderSection s;
+    BafirolenSection s;
     size_t i;
     for (i = 0; i < COUNT(rows); i++) {
         fresh();
-        s = header_read_aad_section(rows[i].bytes, rows[i].len, 0, rows[i].mode, pairs, 4);
+        s = bafirolen_read_aad_section(rows[i].bytes, rows[i].len, 0, rows[i].mode, pairs, 4);
         same("a section's number", s.number, rows[i].number);
         same("a section's position", s.position, rows[i].position);
         same("a section's count", s.count, rows[i].count);
         same("a section's tail", s.tail, rows[i].tail);
         table_is("a section's table", pairs, empty_pair, rows[i].count * 4u);
     }
-    s = header_read_encrypted_data_keys_section(H, 58, 34, HEADER_NO_MAX, 0, keys, NUMBERS);
+    s = bafirolen_read_encrypted_data_keys_section(H, 58, 34, BAFIROLEN_NO_MAX, 0, keys, NUMBERS);
     same("the key section", s.number, 0);
     same("the key section's count", s.count, 1);
     same("the key section's tail", s.tail, 48);
     table_is("the key section's table", keys, H_keys, 6);
-    s = header_read_encrypted_data_keys_section(H, 58, 34, HEADER_AT_MOST, 0, pairs, NUMBERS);
-    same("a maximum of 0", s.number, HEADER_TOO_MANY_KEYS);
-    s = header_read_encrypted_data_keys_section(H, 40, 34, HEADER_AT_MOST, UINT64_MAX, pairs, NUMBERS);
-    same("a key section cut", s.number, HEADER_SHORTAGE);
+    s = bafirolen_read_encrypted_data_keys_section(H, 58, 34, BAFIROLEN_AT_MOST, 0, pairs, NUMBERS);
+    same("a maximum of 0", s.number, BAFIROLEN_TOO_MANY_KEYS);
+    s = bafirolen_read_encrypted_data_keys_section(H, 40, 34, BAFIROLEN_AT_MOST, UINT64_MAX, pairs, NUMBERS);
+    same("a key section cut", s.number, BAFIROLEN_SHORTAGE);
     same("a key section cut", s.position, 42);
 }
 
-static void copied_is(const char *what, HeaderCopied c, uint64_t number, uint64_t position, uint64_t length)
+static void copied_is(const char *what, BafirolenWritten c, uint64_t number, uint64_t position, uint64_t length)
 {
     same(what, c.number, number);
     same(what, c.position, position);
@@ -125,11 +125,11 @@ static void find(void)
     static const struct {
         const char *key;
         uint64_t number, start, len;
-    } rows[] = {{"lang", 0, 32, 2}, {"lan", HEADER_NOT_FOUND, 0, 0}, {"langu", HEADER_NOT_FOUND, 0, 0}, {"", HEADER_NOT_FOUND, 0, 0}};
-    HeaderPlace p;
+    } rows[] = {{"lang", 0, 32, 2}, {"lan", BAFIROLEN_NOT_FOUND, 0, 0}, {"langu", BAFIROLEN_NOT_FOUND, 0, 0}, {"", BAFIROLEN_NOT_FOUND, 0, 0}};
+    BafirolenPlace p;
     size_t i;
     for (i = 0; i < COUNT(rows); i++) {
-        p = header_find_value(H, 58, 20, (const uint8_t *)rows[i].key, strlen(rows[i].key));
+        p = bafirolen_find_value(H, 58, 20, (const uint8_t *)rows[i].key, strlen(rows[i].key));
         same(rows[i].key, p.number, rows[i].number);
         same(rows[i].key, p.position, 0);
         same(rows[i].key, p.start, rows[i].start);
@@ -137,16 +137,16 @@ static void find(void)
     }
     for (i = 0; i < COUNT(rows); i++) {
         fresh();
-        copied_is(rows[i].key, header_copy_value(H, 58, 20, (const uint8_t *)rows[i].key, strlen(rows[i].key), out, BYTES),
+        copied_is(rows[i].key, bafirolen_copy_value(H, 58, 20, (const uint8_t *)rows[i].key, strlen(rows[i].key), out, BYTES),
                   rows[i].number, 0, rows[i].len);
         output_is(rows[i].key, H + rows[i].start, rows[i].len);
     }
     fresh();
-    copied_is("a value into 1 byte", header_copy_value(H, 58, 20, (const uint8_t *)"lang", 4, out, 1), HEADER_OUTPUT_TOO_SHORT, 0, 0);
+    copied_is("a value into 1 byte", bafirolen_copy_value(H, 58, 20, (const uint8_t *)"lang", 4, out, 1), BAFIROLEN_OUTPUT_TOO_SHORT, 0, 0);
     output_is("a value into 1 byte", fresh_bytes, 0);
-    copied_is("a copy of a section cut", header_copy_value(H, 30, 20, H, 0, out, BYTES), HEADER_SHORTAGE, 34, 0);
-    p = header_find_value(H, 30, 20, H, 0);
-    same("a section cut", p.number, HEADER_SHORTAGE);
+    copied_is("a copy of a section cut", bafirolen_copy_value(H, 30, 20, H, 0, out, BYTES), BAFIROLEN_SHORTAGE, 34, 0);
+    p = bafirolen_find_value(H, 30, 20, H, 0);
+    same("a section cut", p.number, BAFIROLEN_SHORTAGE);
     same("a section cut", p.position, 34);
 }
 

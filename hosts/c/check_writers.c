@@ -7,31 +7,31 @@
 static void write_sections(void)
 {
     static const uint32_t outside[4] = {26, 4, 57, 2};
-    HeaderWritten w;
+    BafirolenWritten w;
     fresh();
-    w = header_write_aad_section(H, 58, H_pairs, 4, out, BYTES);
+    w = bafirolen_write_aad_section(H, 58, H_pairs, 4, out, BYTES);
     written_is("the context section", w, 0, 14);
     output_is("the context section", H + 20, 14);
     fresh();
-    w = header_write_aad_section(H, 58, H_pairs, 4, out, 13);
-    written_is("an output of 13", w, HEADER_OUTPUT_TOO_SHORT, 0);
+    w = bafirolen_write_aad_section(H, 58, H_pairs, 4, out, 13);
+    written_is("an output of 13", w, BAFIROLEN_OUTPUT_TOO_SHORT, 0);
     output_is("an output of 13", fresh_bytes, 0);
-    w = header_write_aad_section(H, 58, H_pairs, 3, out, BYTES);
-    written_is("a table of 3", w, HEADER_TABLE_OR_PLACE, 0);
-    w = header_write_aad_section(H, 58, outside, 4, out, BYTES);
-    written_is("a place outside", w, HEADER_TABLE_OR_PLACE, 0);
+    w = bafirolen_write_aad_section(H, 58, H_pairs, 3, out, BYTES);
+    written_is("a table of 3", w, BAFIROLEN_TABLE_OR_PLACE, 0);
+    w = bafirolen_write_aad_section(H, 58, outside, 4, out, BYTES);
+    written_is("a place outside", w, BAFIROLEN_TABLE_OR_PLACE, 0);
     output_is("a place outside", fresh_bytes, 0);
-    w = header_write_encrypted_data_keys_section(H, 58, H_keys, 6, out, BYTES);
+    w = bafirolen_write_encrypted_data_keys_section(H, 58, H_keys, 6, out, BYTES);
     written_is("the key section", w, 0, 14);
     output_is("the key section", H + 34, 14);
 }
 
 /* the numbers with one of them changed: what is refused, or 0 */
-static void write_with(const char *what, HeaderNumbers n, size_t id, size_t room, uint64_t number)
+static void write_with(const char *what, BafirolenNumbers n, size_t id, size_t room, uint64_t number)
 {
-    HeaderWritten w;
+    BafirolenWritten w;
     fresh();
-    w = header_write_header_body(n, H + 4, id, H, 0, H, 58, H_pairs, 4, H_keys, 6, out, room);
+    w = bafirolen_write_header_body(n, H + 4, id, H, 0, H, 58, H_pairs, 4, H_keys, 6, out, room);
     written_is(what, w, number, number == 0 ? 58 : 0);
     if (number != 0) {
         output_is(what, fresh_bytes, 0);
@@ -40,30 +40,30 @@ static void write_with(const char *what, HeaderNumbers n, size_t id, size_t room
 
 static void write_bodies(void)
 {
-    static const HeaderNumbers n = {1, 0x80, 0x0178, 2, 12, 4096};
-    static const HeaderNumbers n2 = {2, 0, 0x0578, 1, 0, 0}, wide = {1, 0x80, 0x0378, 2, 12, 0xFEDCBA98u};
+    static const BafirolenNumbers n = {1, 0x80, 0x0178, 2, 12, 4096};
+    static const BafirolenNumbers n2 = {2, 0, 0x0578, 1, 0, 0}, wide = {1, 0x80, 0x0378, 2, 12, 0xFEDCBA98u};
     static const uint64_t want[15] = {0, 0, 2, 0, 0x0578, 1, 0, 0, 3, 32, 1, 0, 56, 32, 88};
     /* H's numbers, with one of them wrong; some of those agree with the right one in their lowest bytes */
     static const struct {
         const char *what;
-        HeaderNumbers numbers;
+        BafirolenNumbers numbers;
         uint64_t number;
-    } refusals[] = {{"version", {3, 0x80, 0x0178, 2, 12, 4096}, HEADER_VERSION},
-                    {"version 257", {257, 0x80, 0x0178, 2, 12, 4096}, HEADER_VERSION},
-                    {"type", {1, 0x81, 0x0178, 2, 12, 4096}, HEADER_MESSAGE_TYPE},
-                    {"suite", {1, 0x80, 0x7801, 2, 12, 4096}, HEADER_UNKNOWN_SUITE},
-                    {"suite 10178", {1, 0x80, 0x10178, 2, 12, 4096}, HEADER_UNKNOWN_SUITE},
-                    {"suite of version 2", {1, 0x80, 0x0478, 2, 12, 4096}, HEADER_SUITE_OF_OTHER_VERSION},
-                    {"content type", {1, 0x80, 0x0178, 3, 12, 4096}, HEADER_CONTENT_TYPE},
-                    {"IV length", {1, 0x80, 0x0178, 2, 13, 4096}, HEADER_IV_LENGTH},
-                    {"IV length 10C", {1, 0x80, 0x0178, 2, 0x10C, 4096}, HEADER_IV_LENGTH},
-                    {"frame length", {1, 0x80, 0x0178, 2, 12, 0}, HEADER_FRAME_LENGTH}};
-    HeaderWritten w;
+    } refusals[] = {{"version", {3, 0x80, 0x0178, 2, 12, 4096}, BAFIROLEN_UNKNOWN_VERSION},
+                    {"version 257", {257, 0x80, 0x0178, 2, 12, 4096}, BAFIROLEN_UNKNOWN_VERSION},
+                    {"type", {1, 0x81, 0x0178, 2, 12, 4096}, BAFIROLEN_MESSAGE_TYPE},
+                    {"suite", {1, 0x80, 0x7801, 2, 12, 4096}, BAFIROLEN_UNKNOWN_SUITE},
+                    {"suite 10178", {1, 0x80, 0x10178, 2, 12, 4096}, BAFIROLEN_UNKNOWN_SUITE},
+                    {"suite of version 2", {1, 0x80, 0x0478, 2, 12, 4096}, BAFIROLEN_SUITE_OF_OTHER_VERSION},
+                    {"content type", {1, 0x80, 0x0178, 3, 12, 4096}, BAFIROLEN_CONTENT_TYPE},
+                    {"IV length", {1, 0x80, 0x0178, 2, 13, 4096}, BAFIROLEN_IV_LENGTH},
+                    {"IV length 10C", {1, 0x80, 0x0178, 2, 0x10C, 4096}, BAFIROLEN_IV_LENGTH},
+                    {"frame length", {1, 0x80, 0x0178, 2, 12, 0}, BAFIROLEN_FRAME_LENGTH}};
+    BafirolenWritten w;
     size_t i;
     write_with("H written", n, 16, 58, 0);
     output_is("H written", H, 58);
-    write_with("an output of 57", n, 16, 57, HEADER_OUTPUT_TOO_SHORT);
-    write_with("an ID of 15", n, 15, BYTES, HEADER_ID_LENGTH);
+    write_with("an output of 57", n, 16, 57, BAFIROLEN_OUTPUT_TOO_SHORT);
+    write_with("an ID of 15", n, 15, BYTES, BAFIROLEN_ID_LENGTH);
     for (i = 0; i < COUNT(refusals); i++) {
         write_with(refusals[i].what, refusals[i].numbers, 16, BYTES, refusals[i].number);
     }
@@ -72,13 +72,13 @@ static void write_bodies(void)
     same_bytes("another suite", out + 2, "\x03\x78", 2);
     /* version 2: an ID and suite data of 32 bytes, no key */
     fresh();
-    w = header_write_header_body(n2, H, 32, H + 20, 32, H, 58, H_pairs, 4, H_keys, 0, out, BYTES);
+    w = bafirolen_write_header_body(n2, H, 32, H + 20, 32, H, 58, H_pairs, 4, H_keys, 0, out, BYTES);
     written_is("version 2", w, 0, 88);
     same_bytes("version 2", out + 3, H, 32);
     same_bytes("version 2", out + 35, H + 20, 14);
     same_bytes("version 2", out + 56, H + 20, 32);
     same_bytes("version 2", out + 88, fresh_bytes, BYTES - 88);
-    body_is("version 2", header_read_header_body(out, 88, 0, HEADER_V2_ONLY, HEADER_STRICT, 1, 0, pairs, 4, keys, 0), want);
+    body_is("version 2", bafirolen_read_header_body(out, 88, 0, BAFIROLEN_V2_ONLY, BAFIROLEN_STRICT, 1, 0, pairs, 4, keys, 0), want);
 }
 
 static void auth(void)
@@ -89,40 +89,40 @@ static void auth(void)
         uint32_t suite;
         size_t iv, tag, room;
         uint64_t number;
-    } refusals[] = {{0, 0, 0, 0, HEADER_UNKNOWN_SUITE}, {0x10178, 12, 16, 28, HEADER_UNKNOWN_SUITE}, {0x0178, 11, 0, 0, HEADER_IV_LENGTH},
-                    {0x0478, 12, 15, 0, HEADER_TAG_LENGTH}, {0x0178, 12, 16, 27, HEADER_OUTPUT_TOO_SHORT}};
-    HeaderWritten w;
-    HeaderAuth a;
+    } refusals[] = {{0, 0, 0, 0, BAFIROLEN_UNKNOWN_SUITE}, {0x10178, 12, 16, 28, BAFIROLEN_UNKNOWN_SUITE}, {0x0178, 11, 0, 0, BAFIROLEN_IV_LENGTH},
+                    {0x0478, 12, 15, 0, BAFIROLEN_TAG_LENGTH}, {0x0178, 12, 16, 27, BAFIROLEN_OUTPUT_TOO_SHORT}};
+    BafirolenWritten w;
+    BafirolenAuth a;
     size_t i;
     fresh();
     for (i = 0; i < COUNT(refusals); i++) {
-        w = header_write_header_auth_tag(refusals[i].suite, iv, refusals[i].iv, tag, refusals[i].tag, out, refusals[i].room);
+        w = bafirolen_write_header_auth_tag(refusals[i].suite, iv, refusals[i].iv, tag, refusals[i].tag, out, refusals[i].room);
         written_is("a record refused", w, refusals[i].number, 0);
         output_is("a record refused", fresh_bytes, 0);
     }
-    w = header_write_header_auth_tag(0x0178, iv, 12, tag, 16, out + 3, 28);
+    w = bafirolen_write_header_auth_tag(0x0178, iv, 12, tag, 16, out + 3, 28);
     written_is("a record of version 1", w, 0, 28);
-    a = header_read_header_auth_tag(out, 31, 3, 0x0178);
+    a = bafirolen_read_header_auth_tag(out, 31, 3, 0x0178);
     same("a record of version 1", a.number == 0 && a.position == 0, 1);
     same("a record of version 1", a.tail, 31);
     same_bytes("its IV", a.iv, iv, 12);
     same_bytes("its tag", a.tag, tag, 16);
     fresh();
-    w = header_write_header_auth_tag(0x0578, iv, 12, tag, 16, out, BYTES);
+    w = bafirolen_write_header_auth_tag(0x0578, iv, 12, tag, 16, out, BYTES);
     written_is("a record of version 2", w, 0, 16);
     output_is("a record of version 2", tag, 16);
-    a = header_read_header_auth_tag(out, BYTES, 0, 0x0578);
+    a = bafirolen_read_header_auth_tag(out, BYTES, 0, 0x0578);
     same("a record of version 2", a.tail, 16);
     same_bytes("its IV", a.iv, no_iv, 12);
     same_bytes("its tag", a.tag, tag, 16);
-    a = header_read_header_auth_tag(out, 27, 0, 0x0014);
-    same("a record cut", a.number, HEADER_SHORTAGE);
+    a = bafirolen_read_header_auth_tag(out, 27, 0, 0x0014);
+    same("a record cut", a.number, BAFIROLEN_SHORTAGE);
     same("a record cut", a.position, 28);
     same("a record cut", a.tail, 0);
     same_bytes("a record cut", a.iv, no_iv, 12);
     same_bytes("a record cut", a.tag, no_tag, 16);
-    same("an unknown suite", header_read_header_auth_tag(out, 27, 0, 0x1400).number, HEADER_UNKNOWN_SUITE);
-    same("a suite of 17 bits", header_read_header_auth_tag(out, BYTES, 0, 0x10578).number, HEADER_UNKNOWN_SUITE);
+    same("an unknown suite", bafirolen_read_header_auth_tag(out, 27, 0, 0x1400).number, BAFIROLEN_UNKNOWN_SUITE);
+    same("a suite of 17 bits", bafirolen_read_header_auth_tag(out, BYTES, 0, 0x10578).number, BAFIROLEN_UNKNOWN_SUITE);
 }
 
 static void listings(void)
@@ -131,16 +131,16 @@ static void listings(void)
                                "pair\t6c616e67\t6379\nkey\t7031\t61\taabbcc\n";
     static const char of_a_cut[] = "refused\t2\t58\n";
     const size_t n = sizeof of_H - 1;
-    HeaderWritten w;
+    BafirolenWritten w;
     fresh();
-    w = header_write_listing(H, 58, out, n);
+    w = bafirolen_write_listing(H, 58, out, n);
     written_is("H's listing", w, 0, n);
     output_is("H's listing", (const uint8_t *)of_H, n);
     fresh();
-    w = header_write_listing(H, 58, out, n - 1);
-    written_is("no room for H's listing", w, HEADER_OUTPUT_TOO_SHORT, 0);
+    w = bafirolen_write_listing(H, 58, out, n - 1);
+    written_is("no room for H's listing", w, BAFIROLEN_OUTPUT_TOO_SHORT, 0);
     output_is("no room for H's listing", fresh_bytes, 0);
-    w = header_write_listing(H, 57, out, BYTES);
+    w = bafirolen_write_listing(H, 57, out, BYTES);
     written_is("the listing of a cut", w, 0, sizeof of_a_cut - 1);
     output_is("the listing of a cut", (const uint8_t *)of_a_cut, sizeof of_a_cut - 1);
 }

@@ -2,7 +2,7 @@
 #ifndef COMPARE_H
 #define COMPARE_H
 
-#include "header.h"
+#include "bafirolen.h"
 
 #include <stdio.h>
 #include <string.h>
@@ -14,13 +14,13 @@
 #define COUNT(array) (sizeof(array) / sizeof(array)[0])
 
 /* how the archive lays its structs out, which the values below go round through */
-typedef char sizes[(sizeof(HeaderSection) == 32 && sizeof(HeaderPlace) == 32 && sizeof(HeaderAuth) == 56
-                    && sizeof(HeaderBody) == 96 && sizeof(HeaderWritten) == 16 && sizeof(HeaderNumbers) == 24 && sizeof(HeaderCopied) == 24)
+typedef char sizes[(sizeof(BafirolenSection) == 32 && sizeof(BafirolenPlace) == 32 && sizeof(BafirolenAuth) == 56
+                    && sizeof(BafirolenBody) == 96 && sizeof(BafirolenWritten) == 24 && sizeof(BafirolenNumbers) == 24)
                        ? 1
                        : -1];
-typedef char offsets[(offsetof(HeaderAuth, iv) == 24 && offsetof(HeaderAuth, tag) == 36 && offsetof(HeaderBody, numbers) == 16
-                      && offsetof(HeaderBody, messageIdStart) == 40 && offsetof(HeaderBody, tail) == 88
-                      && offsetof(HeaderNumbers, suite) == 8 && offsetof(HeaderNumbers, frameLength) == 20)
+typedef char offsets[(offsetof(BafirolenAuth, iv) == 24 && offsetof(BafirolenAuth, tag) == 36 && offsetof(BafirolenBody, numbers) == 16
+                      && offsetof(BafirolenBody, messageIdStart) == 40 && offsetof(BafirolenBody, tail) == 88
+                      && offsetof(BafirolenNumbers, suite) == 8 && offsetof(BafirolenNumbers, frameLength) == 20)
                          ? 1
                          : -1];
 
@@ -78,15 +78,15 @@ static inline void output_is(const char *what, const uint8_t *front, size_t n)
     same_bytes(what, out + n, fresh_bytes + n, BYTES - n);
 }
 
-static inline void written_is(const char *what, HeaderWritten w, uint64_t number, uint64_t length)
+static inline void written_is(const char *what, BafirolenWritten w, uint64_t number, uint64_t length)
 {
     same(what, w.number, number);
     same(what, w.length, length);
 }
 
-static inline void body_is(const char *what, HeaderBody b, const uint64_t *want)
+static inline void body_is(const char *what, BafirolenBody b, const uint64_t *want)
 {
-    const HeaderNumbers n = b.numbers;
+    const BafirolenNumbers n = b.numbers;
     const uint64_t got[15] = {b.number, b.position, n.version, n.messageType, n.suite, n.contentType, n.headerIvLength, n.frameLength,
                               b.messageIdStart, b.messageIdLen, b.pairCount, b.keyCount, b.suiteDataStart, b.suiteDataLen, b.tail};
     size_t i;

@@ -3,8 +3,8 @@
  * a read or a store beyond one. What is answered there is compared with the answer on buffers with room behind them. Writes
  * `compared N cases`; a difference is written to standard error, and the exit status is 1.
  *
- *     rt staticlib header_c
- *     gcc -std=c99 -O2 -Wall -Wextra -Iinclude hosts/c/exact.c target/staticlib/libheader_c.a -o target/exact_c
+ *     rt staticlib bafirolen_c
+ *     gcc -std=c99 -O2 -Wall -Wextra -Iinclude hosts/c/exact.c target/staticlib/libbafirolen_c.a -o target/exact_c
  *     valgrind --error-exitcode=1 target/exact_c
  */
 #include "compare.h"
@@ -47,12 +47,12 @@ static void let_go(void)
 static void read_body(const uint8_t *m, size_t n, uint8_t which, uint8_t mode, size_t np, size_t nk)
 {
     uint32_t *p, *k;
-    HeaderBody exact, roomy;
+    BafirolenBody exact, roomy;
     fresh();
     p = lend(pairs, np * sizeof *p);
     k = lend(keys, nk * sizeof *k);
-    exact = header_read_header_body(lend(m, n), n, 0, which, mode, HEADER_NO_MAX, 0, p, np, k, nk);
-    roomy = header_read_header_body(m, n, 0, which, mode, HEADER_NO_MAX, 0, pairs, np, keys, nk);
+    exact = bafirolen_read_header_body(lend(m, n), n, 0, which, mode, BAFIROLEN_NO_MAX, 0, p, np, k, nk);
+    roomy = bafirolen_read_header_body(m, n, 0, which, mode, BAFIROLEN_NO_MAX, 0, pairs, np, keys, nk);
     same_bytes("a body", &exact, &roomy, sizeof exact);
     same_bytes("its pairs", p, pairs, np * sizeof *p);
     same_bytes("its keys", k, keys, nk * sizeof *k);
@@ -64,38 +64,38 @@ static void read_parts(const uint8_t *m, size_t n, uint64_t start, size_t np, si
 {
     const uint8_t *message = lend(m, n), *key = lend("ab", 2);
     uint32_t *p, *k;
-    HeaderSection s, t;
-    HeaderPlace f, g;
-    HeaderCopied c, d;
+    BafirolenSection s, t;
+    BafirolenPlace f, g;
+    BafirolenWritten c, d;
     uint8_t *v;
-    HeaderAuth a, b;
+    BafirolenAuth a, b;
     fresh();
     p = lend(pairs, np * sizeof *p);
     k = lend(keys, nk * sizeof *k);
-    s = header_read_aad_section(message, n, start, HEADER_TOLERANT, p, np);
-    t = header_read_aad_section(m, n, start, HEADER_TOLERANT, pairs, np);
+    s = bafirolen_read_aad_section(message, n, start, BAFIROLEN_TOLERANT, p, np);
+    t = bafirolen_read_aad_section(m, n, start, BAFIROLEN_TOLERANT, pairs, np);
     same_bytes("a context section", &s, &t, sizeof s);
     same_bytes("its pairs", p, pairs, np * sizeof *p);
-    s = header_read_encrypted_data_keys_section(message, n, start, HEADER_NO_MAX, 0, k, nk);
-    t = header_read_encrypted_data_keys_section(m, n, start, HEADER_NO_MAX, 0, keys, nk);
+    s = bafirolen_read_encrypted_data_keys_section(message, n, start, BAFIROLEN_NO_MAX, 0, k, nk);
+    t = bafirolen_read_encrypted_data_keys_section(m, n, start, BAFIROLEN_NO_MAX, 0, keys, nk);
     same_bytes("a key section", &s, &t, sizeof s);
     same_bytes("its keys", k, keys, nk * sizeof *k);
-    f = header_find_value(message, n, start, key, 2);
-    g = header_find_value(m, n, start, (const uint8_t *)"ab", 2);
+    f = bafirolen_find_value(message, n, start, key, 2);
+    g = bafirolen_find_value(m, n, start, (const uint8_t *)"ab", 2);
     same_bytes("a value", &f, &g, sizeof f);
     v = lend(out, f.len);
-    c = header_copy_value(message, n, start, key, 2, v, f.len);
-    d = header_copy_value(m, n, start, (const uint8_t *)"ab", 2, out, BYTES);
+    c = bafirolen_copy_value(message, n, start, key, 2, v, f.len);
+    d = bafirolen_copy_value(m, n, start, (const uint8_t *)"ab", 2, out, BYTES);
     same_bytes("a copy", &c, &d, sizeof c);
     same_bytes("its bytes", v, out, f.len);
-    a = header_read_header_auth_tag(message, n, start, 0x0178);
-    b = header_read_header_auth_tag(m, n, start, 0x0178);
+    a = bafirolen_read_header_auth_tag(message, n, start, 0x0178);
+    b = bafirolen_read_header_auth_tag(m, n, start, 0x0178);
     same("a record", a.number, b.number);
     same("a record", a.position, b.position);
     same_bytes("its IV", a.iv, b.iv, sizeof a.iv);
     same_bytes("its tag", a.tag, b.tag, sizeof a.tag);
-    same("number", header_number(message, n, start), header_number(m, n, start));
-    same("position", header_position(message, n, start), header_position(m, n, start));
+    same("number", bafirolen_header_number(message, n, start), bafirolen_header_number(m, n, start));
+    same("position", bafirolen_header_position(message, n, start), bafirolen_header_position(m, n, start));
     let_go();
 }
 
@@ -105,10 +105,10 @@ static void read_cuts(const uint8_t *m, size_t n, size_t np, size_t nk)
     uint64_t start;
     size_t cut;
     for (cut = 0; cut <= n; cut++) {
-        read_body(m, cut, HEADER_EITHER, HEADER_TOLERANT, 4 * np, 6 * nk);
-        read_body(m, cut, HEADER_V1_ONLY, HEADER_STRICT, 4 * np, 6 * nk - 1);
-        read_body(m, cut, HEADER_V2_ONLY, HEADER_STRICT, 4 * np - 1, 6 * nk);
-        read_body(m, cut, HEADER_EITHER, HEADER_STRICT, 0, 0);
+        read_body(m, cut, BAFIROLEN_EITHER, BAFIROLEN_TOLERANT, 4 * np, 6 * nk);
+        read_body(m, cut, BAFIROLEN_V1_ONLY, BAFIROLEN_STRICT, 4 * np, 6 * nk - 1);
+        read_body(m, cut, BAFIROLEN_V2_ONLY, BAFIROLEN_STRICT, 4 * np - 1, 6 * nk);
+        read_body(m, cut, BAFIROLEN_EITHER, BAFIROLEN_STRICT, 0, 0);
         for (start = 0; start <= cut + 1; start++) {
             read_parts(m, cut, start, 4 * np, 6 * nk);
         }
@@ -118,14 +118,14 @@ static void read_cuts(const uint8_t *m, size_t n, size_t np, size_t nk)
 /* a header that was read, written again into exactly its length and into one byte less */
 static void write_again(const uint8_t *m, size_t n)
 {
-    HeaderBody b;
-    HeaderWritten w;
+    BafirolenBody b;
+    BafirolenWritten w;
     const uint8_t *text, *id, *data;
     const uint32_t *p, *k;
     size_t room;
     fresh();
-    b = header_read_header_body(m, n, 0, HEADER_EITHER, HEADER_STRICT, HEADER_NO_MAX, 0, pairs, NUMBERS, keys, NUMBERS);
-    same("a header", b.number, HEADER_ACCEPTED);
+    b = bafirolen_read_header_body(m, n, 0, BAFIROLEN_EITHER, BAFIROLEN_STRICT, BAFIROLEN_NO_MAX, 0, pairs, NUMBERS, keys, NUMBERS);
+    same("a header", b.number, BAFIROLEN_ACCEPTED);
     for (room = 0; room <= n; room++) {
         uint8_t *o = lend(fresh_bytes, room);
         text = lend(m, n);
@@ -133,9 +133,9 @@ static void write_again(const uint8_t *m, size_t n)
         data = lend(m + b.suiteDataStart, b.suiteDataLen);
         p = lend(pairs, 16 * b.pairCount);
         k = lend(keys, 24 * b.keyCount);
-        w = header_write_header_body(b.numbers, id, b.messageIdLen, data, b.suiteDataLen, text, n, p, 4 * b.pairCount, k,
+        w = bafirolen_write_header_body(b.numbers, id, b.messageIdLen, data, b.suiteDataLen, text, n, p, 4 * b.pairCount, k,
                                      6 * b.keyCount, o, room);
-        written_is("a header", w, room < n ? HEADER_OUTPUT_TOO_SHORT : 0, room < n ? 0 : n);
+        written_is("a header", w, room < n ? BAFIROLEN_OUTPUT_TOO_SHORT : 0, room < n ? 0 : n);
         same_bytes("a header", o, room < n ? fresh_bytes : m, room);
         let_go();
     }
@@ -148,23 +148,23 @@ static void write_parts(void)
     size_t room;
     uint8_t *o;
     const uint8_t *text;
-    HeaderWritten w;
+    BafirolenWritten w;
     fresh();
     for (room = 0; room <= 28; room++) {
         o = lend(fresh_bytes, room);
         text = lend(H, 58);
-        w = header_write_aad_section(text, 58, lend(H_pairs, sizeof H_pairs), 4, o, room);
-        written_is("a context section", w, room < 14 ? HEADER_OUTPUT_TOO_SHORT : 0, room < 14 ? 0 : 14);
-        w = header_write_encrypted_data_keys_section(text, 58, lend(H_keys, sizeof H_keys), 6, o, room);
-        written_is("a key section", w, room < 14 ? HEADER_OUTPUT_TOO_SHORT : 0, room < 14 ? 0 : 14);
-        w = header_write_header_auth_tag(0x0014, lend(iv, 12), 12, lend(tag, 16), 16, o, room);
-        written_is("a record", w, room < 28 ? HEADER_OUTPUT_TOO_SHORT : 0, room < 28 ? 0 : 28);
+        w = bafirolen_write_aad_section(text, 58, lend(H_pairs, sizeof H_pairs), 4, o, room);
+        written_is("a context section", w, room < 14 ? BAFIROLEN_OUTPUT_TOO_SHORT : 0, room < 14 ? 0 : 14);
+        w = bafirolen_write_encrypted_data_keys_section(text, 58, lend(H_keys, sizeof H_keys), 6, o, room);
+        written_is("a key section", w, room < 14 ? BAFIROLEN_OUTPUT_TOO_SHORT : 0, room < 14 ? 0 : 14);
+        w = bafirolen_write_header_auth_tag(0x0014, lend(iv, 12), 12, lend(tag, 16), 16, o, room);
+        written_is("a record", w, room < 28 ? BAFIROLEN_OUTPUT_TOO_SHORT : 0, room < 28 ? 0 : 28);
         let_go();
     }
     for (room = 0; room <= 102; room++) {
         o = lend(fresh_bytes, room);
-        w = header_write_listing(lend(H, 58), 58, o, room);
-        written_is("a listing", w, room < 102 ? HEADER_OUTPUT_TOO_SHORT : 0, room < 102 ? 0 : 102);
+        w = bafirolen_write_listing(lend(H, 58), 58, o, room);
+        written_is("a listing", w, room < 102 ? BAFIROLEN_OUTPUT_TOO_SHORT : 0, room < 102 ? 0 : 102);
         let_go();
     }
 }

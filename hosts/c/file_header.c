@@ -1,10 +1,10 @@
 /*
  * Builds the fields of a header, writes it, reads it back, compares, and only then files it.
  *
- *     gcc -std=c99 -O2 -Wall -Wextra -Iinclude hosts/c/file_header.c target/staticlib/libheader_c.a -o target/file_header
+ *     gcc -std=c99 -O2 -Wall -Wextra -Iinclude hosts/c/file_header.c target/staticlib/libbafirolen_c.a -o target/file_header
  *     target/file_header FILE
  */
-#include "header.h"
+#include "bafirolen.h"
 
 #include <stdio.h>
 #include <string.h>
@@ -14,7 +14,7 @@ static const uint8_t text[] = {'l', 'a', 'n', 'g', 'c', 'y', 'p', '1', 'a', 0xAA
 static const uint32_t pairs[4] = {0, 4, 4, 2};
 static const uint32_t keys[6] = {6, 2, 8, 1, 9, 3};
 static const uint8_t id[16] = {0, 1, 2, 3, 4, 5, 6, 7, 8, 9, 10, 11, 12, 13, 14, 15};
-static const HeaderNumbers numbers = {1, 0x80, 0x0178, 2, 12, 4096};
+static const BafirolenNumbers numbers = {1, 0x80, 0x0178, 2, 12, 4096};
 
 /* n numbers of two tables, start and length by turns, lead to the same bytes */
 static int same_parts(const uint8_t *header, const uint32_t *read, const uint32_t *lent, size_t n)
@@ -32,8 +32,8 @@ static int same_parts(const uint8_t *header, const uint32_t *read, const uint32_
 static int reads_back(const uint8_t *header, size_t length)
 {
     uint32_t p[4], k[6];
-    HeaderBody b = header_read_header_body(header, length, 0, HEADER_EITHER, HEADER_STRICT, HEADER_NO_MAX, 0, p, 4, k, 6);
-    return b.number == HEADER_ACCEPTED && b.tail == length && memcmp(&b.numbers, &numbers, sizeof numbers) == 0
+    BafirolenBody b = bafirolen_read_header_body(header, length, 0, BAFIROLEN_EITHER, BAFIROLEN_STRICT, BAFIROLEN_NO_MAX, 0, p, 4, k, 6);
+    return b.number == BAFIROLEN_ACCEPTED && b.tail == length && memcmp(&b.numbers, &numbers, sizeof numbers) == 0
            && b.messageIdLen == sizeof id && memcmp(header + b.messageIdStart, id, sizeof id) == 0 && b.suiteDataLen == 0
            && b.pairCount == 1 && b.keyCount == 1 && same_parts(header, p, pairs, 4) && same_parts(header, k, keys, 6);
 }
@@ -52,14 +52,14 @@ static int file(const char *path, const uint8_t *header, size_t length)
 int main(int argc, char **argv)
 {
     uint8_t out[1024];
-    HeaderWritten w;
+    BafirolenWritten w;
     if (argc != 2) {
         fputs("file_header FILE\n", stderr);
         return 2;
     }
     /* version 1 has no suite data: none are lent, by any pointer that is not null */
-    w = header_write_header_body(numbers, id, sizeof id, text, 0, text, sizeof text, pairs, 4, keys, 6, out, sizeof out);
-    if (w.number != HEADER_ACCEPTED) {
+    w = bafirolen_write_header_body(numbers, id, sizeof id, text, 0, text, sizeof text, pairs, 4, keys, 6, out, sizeof out);
+    if (w.number != BAFIROLEN_ACCEPTED) {
         fprintf(stderr, "refusal %llu\n", (unsigned long long)w.number);
         return 1;
     }

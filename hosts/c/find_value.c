@@ -1,10 +1,10 @@
 /*
  * Finds the value of one key in the context of a header that lies in a file.
  *
- *     gcc -std=c99 -O2 -Wall -Wextra -Iinclude hosts/c/find_value.c target/staticlib/libheader_c.a -o target/find_value
+ *     gcc -std=c99 -O2 -Wall -Wextra -Iinclude hosts/c/find_value.c target/staticlib/libbafirolen_c.a -o target/find_value
  *     target/find_value FILE KEY
  */
-#include "header.h"
+#include "bafirolen.h"
 #include "message.h"
 
 #include <string.h>
@@ -13,7 +13,7 @@ int main(int argc, char **argv)
 {
     size_t length;
     uint8_t *message;
-    HeaderPlace p;
+    BafirolenPlace p;
     if (argc != 3) {
         fputs("find_value FILE KEY\n", stderr);
         return 2;
@@ -28,11 +28,11 @@ int main(int argc, char **argv)
         return 1;
     }
     /* the context section stands behind the ID */
-    p = header_find_value(message, length, message[0] == 1 ? 20 : 35, (const uint8_t *)argv[2], strlen(argv[2]));
-    if (p.number == HEADER_ACCEPTED) {
+    p = bafirolen_find_value(message, length, message[0] == 1 ? 20 : 35, (const uint8_t *)argv[2], strlen(argv[2]));
+    if (p.number == BAFIROLEN_ACCEPTED) {
         fwrite(message + p.start, 1, p.len, stdout);
         putchar('\n');
     }
     free(message);
-    return p.number == HEADER_ACCEPTED ? 0 : refused(p.number, p.position);
+    return p.number == BAFIROLEN_ACCEPTED ? 0 : refused(p.number, p.position);
 }

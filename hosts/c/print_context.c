@@ -1,10 +1,10 @@
 /*
  * Reads a header from a file and prints the pairs of its context.
  *
- *     gcc -std=c99 -O2 -Wall -Wextra -Iinclude hosts/c/print_context.c target/staticlib/libheader_c.a -o target/print_context
+ *     gcc -std=c99 -O2 -Wall -Wextra -Iinclude hosts/c/print_context.c target/staticlib/libbafirolen_c.a -o target/print_context
  *     target/print_context FILE
  */
-#include "header.h"
+#include "bafirolen.h"
 #include "message.h"
 
 /* tables that hold whatever a header can have: pairs of at least four bytes each in fewer than 65,534, and 65,535 keys */
@@ -20,7 +20,7 @@ int main(int argc, char **argv)
 {
     size_t length, i;
     uint8_t *message;
-    HeaderBody b;
+    BafirolenBody b;
     if (argc != 2) {
         fputs("print_context FILE\n", stderr);
         return 2;
@@ -29,9 +29,9 @@ int main(int argc, char **argv)
     if (message == NULL) {
         return 1;
     }
-    b = header_read_header_body(message, length, 0, HEADER_EITHER, HEADER_TOLERANT, HEADER_NO_MAX, 0, pairs,
+    b = bafirolen_read_header_body(message, length, 0, BAFIROLEN_EITHER, BAFIROLEN_TOLERANT, BAFIROLEN_NO_MAX, 0, pairs,
                                 sizeof pairs / sizeof *pairs, keys, sizeof keys / sizeof *keys);
-    if (b.number != HEADER_ACCEPTED) {
+    if (b.number != BAFIROLEN_ACCEPTED) {
         free(message);
         return refused(b.number, b.position);
     }

@@ -9,7 +9,7 @@ use wire::refusals::ID_LENGTH;
 use wire::refusals::MESSAGE_TYPE;
 use wire::refusals::SUITE_OF_OTHER_VERSION;
 use wire::refusals::UNKNOWN_SUITE;
-use wire::refusals::VERSION;
+use wire::refusals::UNKNOWN_VERSION;
 use wire::writing::put_bytes;
 use wire::writing::put_u8;
 use wire::writing::put_u16;
@@ -29,7 +29,7 @@ pub fn check_opening(version: u32, kind: u32, suite: u32, id: usize) -> Checked
     ensures { λ r. ⌜ r ≡ checked (first (opening-checks version kind suite id)) ⌝ }
 {
     if !is_one_or_two(version) {
-        return fails(VERSION);
+        return fails(UNKNOWN_VERSION);
     }
     if !is_by(version, kind as usize, 0x80, 0) {
         return fails(MESSAGE_TYPE);

@@ -33,7 +33,7 @@ pub fn read_message_format_version(m: &[u8], s: u64) -> Number
     requires { ⌜ s < 4294967296 ⌝ }
     ensures { λ r. ⌜ r ≡ number-of (at read-message-format-version (now (m .entry)) s) ⌝ }
 {
-    read_one_or_two(m, s, refusals::VERSION)
+    read_one_or_two(m, s, refusals::UNKNOWN_VERSION)
 }
 
 pub fn read_content_type(m: &[u8], s: u64) -> Number

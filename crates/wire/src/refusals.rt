@@ -10,7 +10,7 @@ pub const NOT_ADDRESSABLE: u8 = 1;
 pub const SHORTAGE: u8 = 2;
 
 // The version byte is not 01 or 02.
-pub const VERSION: u8 = 3;
+pub const UNKNOWN_VERSION: u8 = 3;
 
 // The version is not the one asked for.
 pub const OTHER_VERSION: u8 = 4;

@@ -1,6 +1,6 @@
 //! The answers of the separate implementation in the types of ours.
 
-use header::{AuthRecord, Body, Mode, Numbers, Place, Refusal, Section, Which};
+use bafirolen::{AuthRecord, Body, Mode, Numbers, Place, Refusal, Section, Which};
 
 /// An answer of ours.
 pub type Answer<T> = Result<T, Refusal>;

@@ -2,7 +2,7 @@
 
 use crate::guarded::Guarded;
 use crate::numbers::{self, auth, body, place, refused, section, Answer};
-use header::{AuthRecord, Body, Mode, Place, Refusal, Request, Section};
+use bafirolen::{AuthRecord, Body, Mode, Place, Refusal, Request, Section};
 use std::fmt::Debug;
 
 /// A message and a start as a failure shows them.
@@ -41,7 +41,7 @@ pub fn read_aad_section(
     table: &[u32],
 ) -> (Answer<Section>, Vec<u32>) {
     let (mut ours, mut theirs) = (Guarded::new(table), table.to_vec());
-    let answer = header::read_aad_section(message, start, mode, ours.lend());
+    let answer = bafirolen::read_aad_section(message, start, mode, ours.lend());
     let wanted = reference::read_aad_section(message, start, numbers::mode(mode), &mut theirs)
         .map(|read| section(read.pairs, read.tail))
         .map_err(refused);
@@ -58,7 +58,7 @@ pub fn read_encrypted_data_keys_section(
     table: &[u32],
 ) -> (Answer<Section>, Vec<u32>) {
     let (mut ours, mut theirs) = (Guarded::new(table), table.to_vec());
-    let answer = header::read_encrypted_data_keys_section(message, start, max, ours.lend());
+    let answer = bafirolen::read_encrypted_data_keys_section(message, start, max, ours.lend());
     let wanted = reference::read_encrypted_data_keys_section(message, start, max, &mut theirs)
         .map(|read| section(read.keys, read.tail))
         .map_err(refused);
@@ -87,7 +87,7 @@ pub fn read_header_body(
         keys: keys.to_vec(),
     };
     let answer =
-        header::read_header_body(message, start, request, our_pairs.lend(), our_keys.lend());
+        bafirolen::read_header_body(message, start, request, our_pairs.lend(), our_keys.lend());
     let wanted = reference::read_header_body(
         message,
         start,
@@ -108,7 +108,7 @@ pub fn read_header_body(
 
 /// An authentication record.
 pub fn read_header_auth_tag(message: &[u8], start: u64, suite: u32) -> Answer<AuthRecord> {
-    let answer = header::read_header_auth_tag(message, start, suite);
+    let answer = bafirolen::read_header_auth_tag(message, start, suite);
     let wanted = reference::read_header_auth_tag(message, start, suite)
         .map(auth)
         .map_err(refused);
@@ -119,12 +119,12 @@ pub fn read_header_auth_tag(message: &[u8], start: u64, suite: u32) -> Answer<Au
 /// A value's place; what its companion returns: the same part, at the same
 /// place in memory; and its copy.
 pub fn find_value(message: &[u8], start: u64, key: &[u8]) -> Answer<Place> {
-    let answer = header::find_value(message, start, key);
+    let answer = bafirolen::find_value(message, start, key);
     let wanted = reference::find(message, start, key)
         .map(place)
         .map_err(refused);
     same(&answer, &wanted, key, message, start);
-    let ours = header::find_part(message, start, key);
+    let ours = bafirolen::find_part(message, start, key);
     let theirs = reference::find_part(message, start, key);
     assert!(
         ours == theirs && ours.as_ptr() == theirs.as_ptr(),
@@ -155,7 +155,7 @@ fn copy_value(message: &[u8], start: u64, key: &[u8]) {
             Ok(_) => Ok(value.len()),
         };
         let mut after = before.clone();
-        let answer = header::copy_value(message, start, key, &mut after);
+        let answer = bafirolen::copy_value(message, start, key, &mut after);
         same(&answer, &wanted, key, message, start);
         let copied = wanted.unwrap_or(0);
         assert!(
@@ -169,8 +169,8 @@ fn copy_value(message: &[u8], start: u64, key: &[u8]) {
 /// The number and the position that a host is told, a call each.
 pub fn host_answer(message: &[u8], start: u64) -> (u32, u64) {
     let ours = (
-        header::header_number(message, start),
-        header::header_position(message, start),
+        bafirolen::header_number(message, start),
+        bafirolen::header_position(message, start),
     );
     let theirs = reference::host_answer(message, start);
     assert!(

@@ -2,7 +2,7 @@
 
 use crate::guarded::Guarded;
 use crate::numbers::{refused, their_numbers, Answer};
-use header::{Numbers, Refusal};
+use bafirolen::{Numbers, Refusal};
 
 /// What a body writer is lent beside the output.
 #[derive(Clone, Copy, Debug)]
@@ -41,7 +41,7 @@ pub fn write_aad_section(text: &[u8], pairs: &[u32], out: &[u8]) -> (Answer<usiz
     both(
         out,
         || format!("pairs {pairs:?} of {text:02X?}"),
-        |out| header::write_aad_section(text, pairs, out),
+        |out| bafirolen::write_aad_section(text, pairs, out),
         |out| reference::write_aad_section(text, pairs, out),
     )
 }
@@ -54,7 +54,7 @@ pub fn write_encrypted_data_keys_section(
     both(
         out,
         || format!("keys {keys:?} of {text:02X?}"),
-        |out| header::write_encrypted_data_keys_section(text, keys, out),
+        |out| bafirolen::write_encrypted_data_keys_section(text, keys, out),
         |out| reference::write_encrypted_data_keys_section(text, keys, out),
     )
 }
@@ -68,7 +68,7 @@ pub fn write_header_auth_tag(
     both(
         out,
         || format!("suite {suite:04X}, IV {iv:02X?}, tag {tag:02X?}"),
-        |out| header::write_header_auth_tag(suite, iv, tag, out),
+        |out| bafirolen::write_header_auth_tag(suite, iv, tag, out),
         |out| reference::write_header_auth_tag(suite, iv, tag, out),
     )
 }
@@ -77,7 +77,7 @@ pub fn write_listing(message: &[u8], out: &[u8]) -> (Answer<usize>, Vec<u8>) {
     both(
         out,
         || format!("{message:02X?}"),
-        |out| header::write_listing(message, out),
+        |out| bafirolen::write_listing(message, out),
         |out| reference::write_listing(message, out),
     )
 }
@@ -87,7 +87,7 @@ pub fn write_header_body(lent: BodyLent, out: &[u8]) -> (Answer<usize>, Vec<u8>)
         out,
         || format!("{lent:02X?}"),
         |out| {
-            header::write_header_body(
+            bafirolen::write_header_body(
                 lent.numbers,
                 lent.message_id,
                 lent.suite_data,

@@ -1,9 +1,9 @@
 //! Sample headers cut at every offset, with every byte replaced by every
 //! other, and read from starts up to the ends of 64 bits.
 
+use bafirolen::{Mode, Request, Which};
 use compare_header::{compared, reads};
 use generator::headers::samples;
-use header::{Mode, Request, Which};
 
 const REQUESTS: [Request; 6] = [
     request(Which::Either, Mode::Tolerant),

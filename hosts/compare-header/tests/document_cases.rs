@@ -1,10 +1,10 @@
 //! The cases of document 01, with the answers it gives: the unmarked ones,
 //! and the marked ones beside them.
 
+use bafirolen::{Mode, Request, Section, Which};
 use compare_header::numbers::Answer;
 use compare_header::{compared, reads, writes};
 use generator::headers::{header_h, header_h_refused, header_h_with, hex};
-use header::{Mode, Request, Section, Which};
 
 /// Count and tail, or number and position.
 type Row = Result<(usize, u64), (u32, u64)>;

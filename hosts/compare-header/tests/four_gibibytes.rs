@@ -1,9 +1,9 @@
 //! Messages at the greatest length and one byte above it.
 
+use bafirolen::{Mode, Request, Which};
 use compare_header::numbers::number;
 use compare_header::{compared, reads};
 use generator::headers::header_h_at_four_gibibytes;
-use header::{Mode, Request, Which};
 
 const GREATEST: usize = u32::MAX as usize;
 

@@ -1,6 +1,7 @@
 //! The readers on generated requests, intact and damaged. Each refusal that
 //! an operation lists has to come about.
 
+use bafirolen::{Mode, Request, Which};
 use compare_header::expected::{as_expected, parts_are};
 use compare_header::numbers::number;
 use compare_header::scale::seeds;
@@ -10,7 +11,6 @@ use generator::body_cases::{body_case, BodyCase, Reader};
 use generator::key_cases::key_case;
 use generator::section_cases::section_case;
 use generator::Expected;
-use header::{Mode, Request, Which};
 
 const MODES: [Mode; 2] = [Mode::Tolerant, Mode::Strict];
 const READERS: [Which; 3] = [Which::Either, Which::V1Only, Which::V2Only];

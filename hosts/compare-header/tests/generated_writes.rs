@@ -104,7 +104,7 @@ fn listings() {
         let start = case.message.len().min(case.start as usize);
         let message = &case.message[start..];
         let mut room = vec![0; 2 * message.len() + 28];
-        let length = header::write_listing(message, &mut room).expect("there is room");
+        let length = bafirolen::write_listing(message, &mut room).expect("there is room");
         for room in [length, length - 1, length + 1 + seed as usize % 50] {
             let answer = writes::write_listing(message, &vec![seed as u8; room]);
             coverage.count("write listing", number(&answer.0));

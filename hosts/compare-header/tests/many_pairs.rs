@@ -1,6 +1,7 @@
 //! Contexts of up to thousands of pairs, in every order of their keys: what
 //! keeps the earlier keys may go by their number and their order.
 
+use bafirolen::Mode;
 use compare_header::numbers::number;
 use compare_header::scale::seeds;
 use compare_header::{compared, reads, writes};
@@ -9,7 +10,6 @@ use generator::many::{pairs, MOST, ORDERS};
 use generator::random::Random;
 use generator::tables::lend;
 use generator::Pair;
-use header::Mode;
 
 /// Reads, finds the first, the last and none, and writes; answers how many
 /// comparisons there were.

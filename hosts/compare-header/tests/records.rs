@@ -1,6 +1,7 @@
 //! The records as they cross the boundary: what doesn't apply is 0, and every
 //! number that can stand for a choice stands for one.
 
+use bafirolen_sys::*;
 use compare_header::compared;
 use compare_header::numbers::numbers;
 use compare_header::scale::seeds;
@@ -10,18 +11,18 @@ use generator::key_cases::key_case;
 use generator::random::Random;
 use generator::section_cases::section_case;
 use generator::write_cases::write_section_case;
-use header_sys::*;
 
-/// A byte that chooses: 0, 1, or any other.
-fn choice(random: &mut Random) -> u8 {
-    match random.below(3) {
-        0 => random.below(3) as u8,
-        1 => random.pick(&[2, 3, 0x7F, 0x80, 0xFE, 0xFF]),
-        _ => random.byte(),
+/// A number that chooses: 0, 1, 2, or any other, also one that is 0, 1 or 2
+/// in its lowest byte or bytes.
+fn choice(random: &mut Random) -> u32 {
+    match random.below(4) {
+        0 | 1 => random.below(3) as u32,
+        2 => random.pick(&[3, 0xFF, 0x100, 0x101, 0x1_0002, 0x8000_0000, u32::MAX]),
+        _ => random.below(1 << 32) as u32,
     }
 }
 
-fn mode_of(mode: u8) -> reference::Mode {
+fn mode_of(mode: u32) -> reference::Mode {
     if mode == 0 {
         reference::Mode::Tolerant
     } else {
@@ -29,19 +30,19 @@ fn mode_of(mode: u8) -> reference::Mode {
     }
 }
 
-fn which_of(which: u8) -> reference::Which {
+fn which_of(which: u32) -> reference::Which {
     match which {
-        0 => reference::Which::Either,
         1 => reference::Which::V1,
-        _ => reference::Which::V2,
+        2 => reference::Which::V2,
+        _ => reference::Which::Either,
     }
 }
 
 /// The record of a section that was read or refused.
-fn section(answer: Result<(u32, u64), reference::Refusal>) -> HeaderSection {
+fn section(answer: Result<(u32, u64), reference::Refusal>) -> BafirolenSection {
     let (number, position) = refusal(&answer);
     let (count, tail) = answer.unwrap_or_default();
-    HeaderSection {
+    BafirolenSection {
         number,
         position,
         count: count.into(),
@@ -70,8 +71,8 @@ fn sections_and_places() {
             let (table, len) = (ours.as_mut_ptr(), ours.len());
             let key = &case.asked;
             (
-                header_read_aad_section(m, m_len, case.start, mode, table, len),
-                header_find_value(m, m_len, case.start, key.as_ptr(), key.len()),
+                bafirolen_read_aad_section(m, m_len, case.start, mode, table, len),
+                bafirolen_find_value(m, m_len, case.start, key.as_ptr(), key.len()),
             )
         };
         let wanted =
@@ -81,7 +82,7 @@ fn sections_and_places() {
         let wanted = reference::find(&case.message, case.start, &case.asked);
         let (number, position) = refusal(&wanted);
         let place = wanted.unwrap_or_default();
-        let wanted = HeaderPlace {
+        let wanted = BafirolenPlace {
             number,
             position,
             start: place.start,
@@ -105,7 +106,9 @@ fn keys_and_authentication_records() {
         let read = unsafe {
             let (m, m_len) = (case.message.as_ptr(), case.message.len());
             let (table, len) = (ours.as_mut_ptr(), ours.len());
-            header_read_encrypted_data_keys_section(m, m_len, case.start, has_max, max, table, len)
+            bafirolen_read_encrypted_data_keys_section(
+                m, m_len, case.start, has_max, max, table, len,
+            )
         };
         let max = (has_max != 0).then_some(max);
         let wanted = reference::read_encrypted_data_keys_section(
@@ -121,12 +124,12 @@ fn keys_and_authentication_records() {
         // SAFETY: as above.
         let read = unsafe {
             let (m, m_len) = (case.message.as_ptr(), case.message.len());
-            header_read_header_auth_tag(m, m_len, case.start, case.suite)
+            bafirolen_read_header_auth_tag(m, m_len, case.start, case.suite)
         };
         let wanted = reference::read_header_auth_tag(&case.message, case.start, case.suite);
         let (number, position) = refusal(&wanted);
         let record = wanted.ok();
-        let wanted = HeaderAuth {
+        let wanted = BafirolenAuth {
             number,
             position,
             tail: record.map_or(0, |record| record.tail),
@@ -140,14 +143,14 @@ fn keys_and_authentication_records() {
 }
 
 /// The record of a body that was read or refused.
-fn body(answer: Result<reference::Body, reference::Refusal>) -> HeaderBody {
+fn body(answer: Result<reference::Body, reference::Refusal>) -> BafirolenBody {
     let (number, position) = refusal(&answer);
     let body = answer.ok();
     let of = |field: fn(reference::Body) -> u64| body.map_or(0, field);
-    HeaderBody {
+    BafirolenBody {
         number,
         position,
-        numbers: body.map_or_else(HeaderNumbers::default, |body| numbers(&body.numbers())),
+        numbers: body.map_or_else(BafirolenNumbers::default, |body| numbers(&body.numbers())),
         message_id_start: of(|body| body.id.start),
         message_id_len: of(|body| body.id.len),
         pair_count: of(|body| body.pairs.into()),
@@ -169,7 +172,7 @@ fn bodies() {
         let max = case.max.unwrap_or(random.below(4));
         // SAFETY: pointers and lengths are those of vectors, all apart.
         let read = unsafe {
-            header_read_header_body(
+            bafirolen_read_header_body(
                 case.message.as_ptr(),
                 case.message.len(),
                 case.start,
@@ -211,11 +214,13 @@ fn writes() {
         let written = unsafe {
             let (out, out_len) = (ours.as_mut_ptr(), ours.len());
             let (table, len) = (pairs.as_ptr(), pairs.len());
-            header_write_aad_section(text.as_ptr(), text.len(), table, len, out, out_len)
+            bafirolen_write_aad_section(text.as_ptr(), text.len(), table, len, out, out_len)
         };
         let wanted = reference::write_aad_section(text, pairs, &mut theirs);
-        let wanted = HeaderWritten {
-            number: refusal(&wanted).0,
+        let (number, position) = refusal(&wanted);
+        let wanted = BafirolenWritten {
+            number,
+            position,
             length: wanted.unwrap_or(0),
         };
         assert_eq!(written, wanted, "seed {seed}");

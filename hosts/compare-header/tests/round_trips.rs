@@ -1,5 +1,6 @@
 //! What is written is read again, and what is read is written again.
 
+use bafirolen::{Mode, Numbers, Request, Which};
 use compare_header::expected::parts_are;
 use compare_header::numbers::numbers;
 use compare_header::scale::seeds;
@@ -9,7 +10,6 @@ use generator::fields::{fields, Fields};
 use generator::image::Form;
 use generator::random::Random;
 use generator::tables::lend;
-use header::{Mode, Numbers, Request, Which};
 
 fn stored(fields: &Fields) -> Numbers {
     numbers(&fields.numbers().into())
@@ -96,7 +96,7 @@ fn read_then_written() {
             let (answer, tables) =
                 reads::read_header_body(&message, before as u64, request, &pairs, &keys);
             let body = answer.unwrap_or_else(|refusal| panic!("seed {seed}: {refusal}"));
-            let part = |place: header::Place| {
+            let part = |place: bafirolen::Place| {
                 let part = place.within(&message);
                 part.expect("a part that was read")
             };

@@ -1,5 +1,6 @@
 //! Context sections at each edge of the format, one by one.
 
+use bafirolen::Mode;
 use compare_header::numbers::number;
 use compare_header::scale::seeds;
 use compare_header::{compared, reads, writes};
@@ -9,7 +10,6 @@ use generator::random::Random;
 use generator::tables::lend;
 use generator::texts::{bad_sequence, text_of, BAD_KINDS};
 use generator::Pair;
-use header::Mode;
 
 const MODES: [Mode; 2] = [Mode::Tolerant, Mode::Strict];
 

@@ -3,13 +3,13 @@
 use super::agreed;
 use super::keys::key;
 use crate::table::Table;
+use bafirolen::{Numbers, Request};
 use generator::fields::Fields;
 use generator::image::Form;
 use generator::many::{pairs, Order};
 use generator::random::Random;
 use generator::tables::lend;
 use generator::Key;
-use header::{Numbers, Request};
 use std::hint::black_box;
 
 /// A body's name, its pairs and its keys.
@@ -62,7 +62,7 @@ fn read(table: &mut Table, what: &str, fields: &Fields) {
         1,
         |_| {
             let (pairs, keys) = black_box(&mut ours);
-            header::read_header_body(black_box(&message), 0, Request::default(), pairs, keys)
+            bafirolen::read_header_body(black_box(&message), 0, Request::default(), pairs, keys)
                 .map_or(0, |body| body.tail)
         },
         |_| {
@@ -101,7 +101,7 @@ fn write(table: &mut Table, what: &str, fields: &Fields) {
         |_| {
             let (lent, out) = (black_box(&lent), black_box(&mut ours[..]));
             let (text, pairs, keys) = (&lent.text, &lent.pairs, &lent.keys);
-            header::write_header_body(numbers, &fields.id, &[], text, pairs, keys, out)
+            bafirolen::write_header_body(numbers, &fields.id, &[], text, pairs, keys, out)
                 .map_or(0, |length| length as u64)
         },
         |_| {

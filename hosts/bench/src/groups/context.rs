@@ -2,12 +2,12 @@
 
 use super::agreed;
 use crate::table::Table;
+use bafirolen::Mode;
 use generator::image::{section, Form};
 use generator::many::{pairs, Order, MOST, ORDERS};
 use generator::random::Random;
 use generator::tables::{lend, Lent};
 use generator::Pair;
-use header::Mode;
 use std::hint::black_box;
 
 /// Counts of pairs, with the lengths of their keys and values that a section
@@ -96,7 +96,7 @@ fn read(table: &mut Table, what: &str, lists: &[Vec<Pair>]) {
     let times = agreed(
         lists.len(),
         |call| {
-            header::read_aad_section(message(call), 0, Mode::Tolerant, black_box(&mut ours))
+            bafirolen::read_aad_section(message(call), 0, Mode::Tolerant, black_box(&mut ours))
                 .map_or(0, |read| read.tail)
         },
         |call| {
@@ -120,7 +120,7 @@ fn write(table: &mut Table, what: &str, lists: &[Vec<Pair>]) {
         lists.len(),
         |call| {
             let lent = lent(call);
-            header::write_aad_section(&lent.text, &lent.pairs, black_box(&mut ours))
+            bafirolen::write_aad_section(&lent.text, &lent.pairs, black_box(&mut ours))
                 .map_or(0, |length| length as u64)
         },
         |call| {

@@ -48,7 +48,7 @@ fn read(table: &mut Table, what: &str, lists: &[Vec<Key>]) {
         lists.len(),
         |call| {
             let table = black_box(&mut ours[..]);
-            header::read_encrypted_data_keys_section(message(call), 0, None, table)
+            bafirolen::read_encrypted_data_keys_section(message(call), 0, None, table)
                 .map_or(0, |read| read.tail)
         },
         |call| {
@@ -72,7 +72,7 @@ fn write(table: &mut Table, what: &str, lists: &[Vec<Key>]) {
         lists.len(),
         |call| {
             let (lent, out) = (lent(call), black_box(&mut ours[..]));
-            header::write_encrypted_data_keys_section(&lent.text, &lent.keys, out)
+            bafirolen::write_encrypted_data_keys_section(&lent.text, &lent.keys, out)
                 .map_or(0, |length| length as u64)
         },
         |call| {

@@ -1,0 +1,129 @@
+-- The ways out of the functions that cross the boundary, one law each. Assumes nothing.
+use Prim.Native.Nat.{ℕ}
+use mathlib.Core.Path.{_≡_, refl, sym, ap, _∙_}
+use mathlib.Core.Bool.{cond}
+use mathlib.Core.List.{List}
+use lib.ListN.{length}
+use lib.Dec.{eqb}
+use borrow.Author.Tests.{eq-eqb, ne-eqb}
+use Rattle.format.specs.Read.{Answer, accepted, refused, operation}
+use Rattle.format.specs.Serialize.{Part}
+use Rattle.format.specs.Fields.{PairAt, EncryptedDataKeyAt}
+use Rattle.format.specs.Context.{read-aad-section-into}
+use Rattle.format.specs.Keys.{read-encrypted-data-keys-section-into}
+use Rattle.format.specs.Auth.{HeaderAuth as AuthTag}
+use Rattle.format.specs.Lent.{Writing, written, pair-numbers, key-numbers}
+use Rattle.wire.specs.declared.Refusal.{Refusal}
+use Rattle.request.specs.Codes.{mode-of, max-of}
+use Rattle.request.specs.declared.Max.{Max}
+use Rattle.request.specs.declared.Mode.{Mode}
+use Rattle.request.specs.declared.Which.{Which}
+use Rattle.request.specs.declared.Request.{Request}
+use Rattle.entries.specs.Codes.{Reads}
+use Rattle.context.specs.Codes.{context-of, found-of}
+use Rattle.context.specs.declared.ContextAnswer.{ContextAnswer}
+use Rattle.context.specs.declared.ContextAnswer.the-variants as context
+use Rattle.context.specs.declared.FoundAnswer.{FoundAnswer}
+use Rattle.context.specs.declared.FoundAnswer.the-variants as found
+use Rattle.keys.specs.Codes.{keys-of}
+use Rattle.keys.specs.declared.KeysAnswer.{KeysAnswer}
+use Rattle.keys.specs.declared.KeysAnswer.the-variants as keys
+use Rattle.auth.specs.Codes.{auth-of}
+use Rattle.auth.specs.declared.AuthRead.{AuthRead}
+use Rattle.checks.specs.Answers.{write-answer-of}
+use Rattle.checks.specs.Answers.{Writes as Answers}
+use Rattle.checks.specs.declared.WriteAnswer.{WriteAnswer}
+use Rattle.checks.specs.declared.WriteAnswer.the-variants as write
+use Rattle.bafirolen_c.specs.declared.BafirolenSection.{BafirolenSection}
+use Rattle.bafirolen_c.specs.declared.BafirolenAuth.{BafirolenAuth}
+use Rattle.bafirolen_c.specs.declared.BafirolenPlace.{BafirolenPlace}
+use Rattle.bafirolen_c.specs.declared.BafirolenWritten.{BafirolenWritten}
+use Rattle.bafirolen_c.specs.Asked.{which-asked, mode-asked, max-asked, request-asked}
+use Rattle.bafirolen_c.specs.Exports.{section-record, context-fields, keys-fields, auth-record, auth-fields, place-record, found-fields, written-record, write-fields, Writes}
+
+-- a number that is tested
+module _ {A : Type 0} (n k : ℕ) (x y : A) where
+  pub is-it : n ≡ k → x ≡ cond (eqb n k) x y
+  is-it e = sym (rw (eq-eqb n k e))
+
+  pub is-not : (n ≡ k → ⊥) → (z : A) → z ≡ y → z ≡ cond (eqb n k) x y
+  is-not h z e = e ∙ sym (rw (ne-eqb n k h))
+
+pub request-of : (w n h x : ℕ) (which : Which) (mode : Mode) (max : Max) → which ≡ which-asked w → mode ≡ mode-asked n → max ≡ max-asked h x
+    → record { which = which; mode = mode; max = max } ≡ request-asked w n h x
+request-of w n h x which mode max e f g = rw (e, f, g)
+
+-- what was read
+pub context-accepted : (a : ContextAnswer) (n t : ℕ) → a ≡ context.Accepted n t → record { number = 0; position = 0; count = n; tail = t } ≡ context-fields a
+context-accepted a n t e = sym (ap context-fields e)
+
+pub context-refused : (a : ContextAnswer) (q : Refusal) → a ≡ context.Refused q → record { number = q .number; position = q .position; count = 0; tail = 0 } ≡ context-fields a
+context-refused a q e = sym (ap context-fields e)
+
+pub keys-accepted : (a : KeysAnswer) (n t : ℕ) → a ≡ keys.Accepted n t → record { number = 0; position = 0; count = n; tail = t } ≡ keys-fields a
+keys-accepted a n t e = sym (ap keys-fields e)
+
+pub keys-refused : (a : KeysAnswer) (q : Refusal) → a ≡ keys.Refused q → record { number = q .number; position = q .position; count = 0; tail = 0 } ≡ keys-fields a
+keys-refused a q e = sym (ap keys-fields e)
+
+pub found-there : (a : FoundAnswer) (s n : ℕ) → a ≡ found.At s n → record { number = 0; position = 0; start = s; len = n } ≡ found-fields a
+found-there a s n e = sym (ap found-fields e)
+
+pub found-refused : (a : FoundAnswer) (q : Refusal) → a ≡ found.Refused q → record { number = q .number; position = q .position; start = 0; len = 0 } ≡ found-fields a
+found-refused a q e = sym (ap found-fields e)
+
+-- and written
+pub write-done : (a : WriteAnswer) (n : ℕ) → a ≡ write.Written n → record { number = 0; position = 0; length = n } ≡ write-fields a
+write-done a n e = sym (ap write-fields e)
+
+pub write-refused : (a : WriteAnswer) (q : Refusal) → a ≡ write.Refused q → record { number = q .number; position = q .position; length = 0 } ≡ write-fields a
+write-refused a q e = sym (ap write-fields e)
+
+-- the code's answer crosses as the definition's does
+context-as : (o : Answer (List PairAt)) → context-fields (context-of o) ≡ section-record o
+context-as (accepted ps t) = refl
+context-as (refused k p) = refl
+
+keys-as : (o : Answer (List EncryptedDataKeyAt)) → keys-fields (keys-of o) ≡ section-record o
+keys-as (accepted ks t) = refl
+keys-as (refused k p) = refl
+
+auth-as : (o : Answer AuthTag) → auth-fields (auth-of o) ≡ auth-record o
+auth-as (accepted a t) = refl
+auth-as (refused k p) = refl
+
+found-as : (o : Answer Part) → found-fields (found-of o) ≡ place-record o
+found-as (accepted v t) = refl
+found-as (refused k p) = refl
+
+write-as : (o : Answer (Unit {0})) → write-fields (write-answer-of o) ≡ written-record o
+write-as (accepted u n) = refl
+write-as (refused k p) = refl
+
+-- a reader with a table
+module _ {A R S : Type 0} (code : Answer A → R) (fields : R → S) (crossed : Answer A → S) (agrees : (o : Answer A) → fields (code o) ≡ crossed o) where
+  reads-cross : (numbers : A → List ℕ) (o : Answer A) (before after : List ℕ) (a : R) (r : S) → r ≡ fields a → Reads code numbers o before after a → Reads crossed numbers o before after r
+  reads-cross numbers o before after a r e f = record { answer = e ∙ ap fields (f .answer) ∙ agrees o; table = f .table }
+
+pub context-crosses : (w n h x : ℕ) (q : Request) → q ≡ request-asked w n h x → (m before after : List ℕ) (s : ℕ) (a : ContextAnswer)
+    → Reads context-of pair-numbers (operation (read-aad-section-into (mode-of (q .mode)) (length before)) m s) before after a
+    → (r : BafirolenSection) → r ≡ context-fields a
+    → Reads section-record pair-numbers (operation (read-aad-section-into (mode-of (mode-asked n)) (length before)) m s) before after r
+context-crosses w n h x q is m before after s a f r e =
+    reads-cross context-of context-fields section-record context-as pair-numbers _ before after a r e (rw is at f)
+
+pub keys-cross : (w n h x : ℕ) (q : Request) → q ≡ request-asked w n h x → (m before after : List ℕ) (s : ℕ) (a : KeysAnswer)
+    → Reads keys-of key-numbers (operation (read-encrypted-data-keys-section-into (max-of (q .max)) (length before)) m s) before after a
+    → (r : BafirolenSection) → r ≡ keys-fields a
+    → Reads section-record key-numbers (operation (read-encrypted-data-keys-section-into (max-of (max-asked h x)) (length before)) m s) before after r
+keys-cross w n h x q is m before after s a f r e =
+    reads-cross keys-of keys-fields section-record keys-as key-numbers _ before after a r e (rw is at f)
+
+pub auth-crosses : (o : Answer AuthTag) (a : AuthRead) (r : BafirolenAuth) → r ≡ auth-fields a → a ≡ auth-of o → r ≡ auth-record o
+auth-crosses o a r e f = e ∙ ap auth-fields f ∙ auth-as o
+
+pub found-crosses : (o : Answer Part) (a : FoundAnswer) (r : BafirolenPlace) → r ≡ found-fields a → a ≡ found-of o → r ≡ place-record o
+found-crosses o a r e f = e ∙ ap found-fields f ∙ found-as o
+
+pub write-crosses : (w : Writing) (before after : List ℕ) (a : WriteAnswer) (r : BafirolenWritten) → r ≡ write-fields a → Answers w before after a → Writes w before after r
+write-crosses w before after a r e f = record { answer = e ∙ ap write-fields (f .answer) ∙ write-as (written w before); output = f .output }

@@ -1,0 +1,92 @@
+// The sections on their own.
+use crate::BafirolenSection;
+use crate::asked::request_asked;
+use context::ContextAnswer;
+use keys::KeysAnswer;
+ghost use mathlib.Core.Path.{_≡_};
+ghost use lib.ListN.{length};
+ghost use Rattle.format.specs.Read.{operation};
+ghost use Rattle.format.specs.Context.{read-aad-section-into};
+ghost use Rattle.format.specs.Keys.{read-encrypted-data-keys-section-into};
+ghost use Rattle.format.specs.Lent.{pair-numbers, key-numbers};
+ghost use Rattle.request.specs.Codes.{mode-of, max-of};
+ghost use Rattle.entries.specs.Codes.{Reads};
+ghost use Rattle.bafirolen_c.specs.Asked.{mode-asked, max-asked};
+ghost use Rattle.bafirolen_c.specs.Exports.{section-record, context-fields, keys-fields};
+
+fn context_record(a: ContextAnswer) -> BafirolenSection
+    ensures { λ r. ⌜ r ≡ context-fields a ⌝ }
+{
+    match a {
+        ContextAnswer::Accepted {
+            pairCount: pairs,
+            tail,
+        } => BafirolenSection {
+            number: 0,
+            position: 0,
+            count: pairs,
+            tail,
+        },
+        ContextAnswer::Refused(q) => BafirolenSection {
+            number: q.number as u64,
+            position: q.position,
+            count: 0,
+            tail: 0,
+        },
+    }
+}
+
+// Mode 0: tolerant; any other: strict. The places of the pairs go into the table, four numbers a pair; on a refusal it keeps.
+#[no_mangle]
+pub extern "C" fn bafirolen_read_aad_section(
+    m: &[u8],
+    start: u64,
+    mode: u32,
+    table: &mut [u32],
+) -> BafirolenSection
+    ensures { λ r. ⌜ Reads section-record pair-numbers (operation (read-aad-section-into (mode-of (mode-asked mode)) (length (now (table .entry)))) (now (m .entry)) start) (now (table .entry)) (now (table .exit)) r ⌝ }
+{
+    context_record(context::read_aad_section(m, start, request_asked(0, mode, 0, 0), table))
+}
+
+fn keys_record(a: KeysAnswer) -> BafirolenSection
+    ensures { λ r. ⌜ r ≡ keys-fields a ⌝ }
+{
+    match a {
+        KeysAnswer::Accepted {
+            keyCount: keys,
+            tail,
+        } => BafirolenSection {
+            number: 0,
+            position: 0,
+            count: keys,
+            tail,
+        },
+        KeysAnswer::Refused(q) => BafirolenSection {
+            number: q.number as u64,
+            position: q.position,
+            count: 0,
+            tail: 0,
+        },
+    }
+}
+
+// hasMax 0: no maximum; any other: at most `max` keys. The places of the keys go into the table, six numbers a key; on a refusal
+// it keeps.
+#[no_mangle]
+pub extern "C" fn bafirolen_read_encrypted_data_keys_section(
+    m: &[u8],
+    start: u64,
+    hasMax: u32,
+    max: u64,
+    table: &mut [u32],
+) -> BafirolenSection
+    ensures { λ r. ⌜ Reads section-record key-numbers (operation (read-encrypted-data-keys-section-into (max-of (max-asked hasMax max)) (length (now (table .entry)))) (now (m .entry)) start) (now (table .entry)) (now (table .exit)) r ⌝ }
+{
+    keys_record(keys::read_encrypted_data_keys_section(
+        m,
+        start,
+        request_asked(0, 0, hasMax, max),
+        table,
+    ))
+}

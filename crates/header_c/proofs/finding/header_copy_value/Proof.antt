@@ -1,9 +1,0 @@
-use Rattle.header_c.proofs.Copying.{copies-none, copies-28, copies-all}
-use borrow.Author.Needs.{needs}
-use Rattle.header_c.proofs.finding.header_copy_value.Statement.{statement}
-use Rattle.header_c.proofs.finding.header_copy_value.Tie as tie
-
-ruleset laws = (copies-none, copies-28, copies-all, needs)
-
-pub header-copy-value-spec : {M : Type 1} → statement M
-header-copy-value-spec = tie.close (tie.spec (λ c κs. search laws) (λ c κs. search laws) (λ c κs. search laws) (λ c. search laws) (λ c κs. search laws) (λ c. search laws) (λ c κs. search laws) (λ c κs. search laws) (λ c. search laws) (λ c. search laws))

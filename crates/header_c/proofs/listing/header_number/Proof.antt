@@ -1,9 +1,0 @@
-use Rattle.header_c.proofs.BodyCrossing.{number-accepted, number-refused}
-use borrow.Author.Needs.{needs}
-use Rattle.header_c.proofs.listing.header_number.Statement.{statement}
-use Rattle.header_c.proofs.listing.header_number.Tie as tie
-
-ruleset laws = (number-accepted, number-refused, needs)
-
-pub header-number-spec : {M : Type 1} → statement M
-header-number-spec = tie.close (tie.spec (λ c κs. search laws) (λ c. search laws) (λ c. search laws) (λ c. search laws) (λ c. search laws) (λ c. search laws))

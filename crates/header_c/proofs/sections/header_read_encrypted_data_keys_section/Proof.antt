@@ -1,9 +1,0 @@
-use Rattle.header_c.proofs.Crossing.{keys-cross}
-use borrow.Author.Needs.{needs}
-use Rattle.header_c.proofs.sections.header_read_encrypted_data_keys_section.Statement.{statement}
-use Rattle.header_c.proofs.sections.header_read_encrypted_data_keys_section.Tie as tie
-
-ruleset laws = (keys-cross, needs)
-
-pub header-read-encrypted-data-keys-section-spec : {M : Type 1} → statement M
-header-read-encrypted-data-keys-section-spec = tie.close (tie.spec (λ c κs. search laws) (λ c κs. search laws) (λ c κs. search laws) (λ c. search laws) (λ c. search laws))

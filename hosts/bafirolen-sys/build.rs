@@ -1,0 +1,3 @@
+fn main() {
+    archive::link("bafirolen_c");
+}

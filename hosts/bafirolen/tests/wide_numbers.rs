@@ -1,0 +1,55 @@
+//! Numbers that agree with the right one in their lowest byte or bytes: each
+//! is refused, and none is cut to what its field holds.
+
+use bafirolen::{read_header_auth_tag, write_header_auth_tag, write_header_body, Numbers};
+
+/// Those of document 01's header H.
+const H: Numbers = Numbers {
+    version: 1,
+    message_type: 0x80,
+    suite: 0x0178,
+    content_type: 2,
+    header_iv_length: 12,
+    frame_length: 4_096,
+};
+
+/// What writing them with no pair and no key answers: a refusal's number, or
+/// 0. A refusal leaves the output.
+fn answer(numbers: Numbers) -> u32 {
+    let mut out = [0xEE; 64];
+    match write_header_body(numbers, &[0; 16], &[], &[], &[], &[], &mut out) {
+        Ok(length) => {
+            assert_eq!((length, out[0]), (34, 1));
+            0
+        }
+        Err(refusal) => {
+            assert_eq!(out, [0xEE; 64]);
+            refusal.number
+        }
+    }
+}
+
+#[test]
+fn numbers_of_a_body() {
+    let changed = |change: fn(&mut Numbers)| {
+        let mut numbers = H;
+        change(&mut numbers);
+        answer(numbers)
+    };
+    assert_eq!(answer(H), 0);
+    assert_eq!(changed(|numbers| numbers.version = 257), 3);
+    assert_eq!(changed(|numbers| numbers.message_type = 0x180), 5);
+    assert_eq!(changed(|numbers| numbers.suite = 0x1_0178), 6);
+    assert_eq!(changed(|numbers| numbers.content_type = 0x102), 17);
+    assert_eq!(changed(|numbers| numbers.header_iv_length = 0x10C), 19);
+}
+
+#[test]
+fn the_suite_of_a_record() {
+    let mut out = [0xEE; 64];
+    let written = write_header_auth_tag(0x1_0178, &[1; 12], &[2; 16], &mut out);
+    assert_eq!(written.unwrap_err().number, 6);
+    assert_eq!(out, [0xEE; 64]);
+    let read = read_header_auth_tag(&out, 0, 0x1_0178);
+    assert_eq!(read.unwrap_err().number, 6);
+}

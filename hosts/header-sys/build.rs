@@ -1,3 +1,0 @@
-fn main() {
-    archive::link("header_c");
-}
