@@ -1,0 +1,84 @@
+/*
+ * The refusals by their numbers, and in words. bafirolen.h includes this. A number keeps its meaning from one version to the next;
+ * later versions have more of them.
+ */
+#ifndef BAFIROLEN_REFUSALS_H
+#define BAFIROLEN_REFUSALS_H
+
+#include <stddef.h>
+#include <stdint.h>
+
+enum BafirolenRefusal {
+    BAFIROLEN_ACCEPTED = 0, /* no refusal */
+    BAFIROLEN_NOT_ADDRESSABLE = 1,
+    BAFIROLEN_SHORTAGE = 2, /* the message would have to reach `position` */
+    BAFIROLEN_UNKNOWN_VERSION = 3,
+    BAFIROLEN_OTHER_VERSION = 4,
+    BAFIROLEN_MESSAGE_TYPE = 5,
+    BAFIROLEN_UNKNOWN_SUITE = 6,
+    BAFIROLEN_SUITE_OF_OTHER_VERSION = 7,
+    BAFIROLEN_COUNT_IN_EMPTY_CONTEXT = 8,
+    BAFIROLEN_NO_COUNT_IN_CONTEXT = 9,
+    BAFIROLEN_KEY_NOT_UTF8 = 10, /* a key of the context, as in 12 and 29 */
+    BAFIROLEN_VALUE_NOT_UTF8 = 11,
+    BAFIROLEN_KEY_SEEN_BEFORE = 12,
+    BAFIROLEN_PAIRS_TOO_LONG = 13,
+    BAFIROLEN_CONTEXT_LENGTH = 14,
+    BAFIROLEN_TOO_MANY_KEYS = 15, /* encrypted data keys, as in 16 and 23 */
+    BAFIROLEN_PROVIDER_ID_NOT_UTF8 = 16,
+    BAFIROLEN_CONTENT_TYPE = 17,
+    BAFIROLEN_RESERVED_BYTES = 18,
+    BAFIROLEN_IV_LENGTH = 19,
+    BAFIROLEN_FRAME_LENGTH = 20,      /* framed content with frame length 0, or non-framed content with another */
+    BAFIROLEN_OLD_EMPTY_CONTEXT = 21, /* strict: 00 02 00 00 */
+    BAFIROLEN_PAIR_TABLE_TOO_SHORT = 22,
+    BAFIROLEN_KEY_TABLE_TOO_SHORT = 23,
+    BAFIROLEN_ID_LENGTH = 24,         /* 16 bytes in version 1, 32 in version 2 */
+    BAFIROLEN_SUITE_DATA_LENGTH = 25, /* 0 bytes in version 1, 32 in version 2 */
+    BAFIROLEN_TABLE_OR_PLACE = 26,
+    BAFIROLEN_COUNT_OR_PART_TOO_LONG = 27,
+    BAFIROLEN_OUTPUT_TOO_SHORT = 28,
+    BAFIROLEN_NOT_FOUND = 29,
+    BAFIROLEN_TAG_LENGTH = 30
+};
+
+/* A refusal in words. Any other number has the words for unknown ones. */
+static inline const char *bafirolen_refusal_text(uint64_t number)
+{
+    static const char *const texts[] = {
+        "no refusal",
+        "message length or start above 4,294,967,295",
+        "shortage: the message does not reach the position given",
+        "version not 01 or 02",
+        "not the version asked for",
+        "type not 80 (writing version 2: not 0)",
+        "unknown suite",
+        "suite of the other version",
+        "context section of length 2 with a count that is not 0",
+        "context section of another length above 0 with a count of 0",
+        "key not UTF-8",
+        "value not UTF-8",
+        "key seen before",
+        "the pairs take 65,534 bytes or more",
+        "the pairs' end differs from the stored length",
+        "key count above the maximum",
+        "provider ID not UTF-8",
+        "content type not 01 or 02",
+        "reserved bytes not 0",
+        "IV length not the suite's (writing a body of version 2: not 0)",
+        "frame length against content type",
+        "the old form of an empty context",
+        "pair table too short",
+        "key table too short",
+        "message ID of another length",
+        "suite data of another length",
+        "table not in fours or sixes, or a place outside the text",
+        "more than 65,535 items, or a part above 65,535 bytes",
+        "output too short",
+        "no pair has the key",
+        "tag not 16 bytes",
+    };
+    return number < sizeof texts / sizeof *texts ? texts[number] : "unknown refusal";
+}
+
+#endif
