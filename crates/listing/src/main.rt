@@ -1,5 +1,6 @@
 // Lists the header at the front of standard input: at most 65,536 bytes of it, and the rest is ignored.
 use checks::WriteAnswer;
+use libc::STDERR_FILENO;
 use libc::STDIN_FILENO;
 use libc::STDOUT_FILENO;
 use listing_text::write_listing;
@@ -23,10 +24,18 @@ fn list(m: &[u8], out: &mut [u8]) -> usize
     }
 }
 
+// The language has no exit status, so that a listing that could not be written whole is told from one that was by what is said here.
+fn complain() {
+    let said = b"listing: standard output could not be written\n";
+    io::write_all(STDERR_FILENO, said);
+}
+
 fn main() {
     let mut buf = [0u8; 65536];
     let n = io::read_full(STDIN_FILENO, &mut buf);
     let mut out = [0u8; 262144];
     let len = list(&buf[..n], &mut out);
-    io::write_all(STDOUT_FILENO, &out[..len]);
+    if !io::write_all(STDOUT_FILENO, &out[..len]) {
+        complain();
+    }
 }
