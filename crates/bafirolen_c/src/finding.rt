@@ -1,6 +1,6 @@
 // Finding a value, and copying it.
-use crate::BafirolenWritten;
 use crate::BafirolenPlace;
+use crate::BafirolenWritten;
 use context::FoundAnswer;
 use wire::refusals;
 use wire::writing::put_bytes;
