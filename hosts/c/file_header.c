@@ -4,15 +4,14 @@
  *     gcc -std=c99 -O2 -Wall -Wextra -Iinclude hosts/c/file_header.c target/staticlib/libbafirolen_c.a -o target/file_header
  *     target/file_header FILE
  */
-#include "bafirolen.h"
+#include "example.h"
 
-#include <stdio.h>
-#include <string.h>
+static const char program[] = "file_header";
 
 /* pairs and keys have their places in one text: key and value; provider ID, provider info and ciphertext */
 static const uint8_t text[] = {'l', 'a', 'n', 'g', 'c', 'y', 'p', '1', 'a', 0xAA, 0xBB, 0xCC};
-static const uint32_t pairs[4] = {0, 4, 4, 2};
-static const uint32_t keys[6] = {6, 2, 8, 1, 9, 3};
+static const uint32_t pairs[BAFIROLEN_NUMBERS_PER_PAIR] = {0, 4, 4, 2};
+static const uint32_t keys[BAFIROLEN_NUMBERS_PER_KEY] = {6, 2, 8, 1, 9, 3};
 static const uint8_t id[16] = {0, 1, 2, 3, 4, 5, 6, 7, 8, 9, 10, 11, 12, 13, 14, 15};
 static const BafirolenNumbers numbers = {1, 0x80, 0x0178, 2, 12, 4096};
 
@@ -53,24 +52,24 @@ int main(int argc, char **argv)
 {
     uint8_t out[1024];
     BafirolenWritten w;
-    if (argc != 2) {
-        fputs("file_header FILE\n", stderr);
-        return 2;
-    }
-    /* version 1 has no suite data: none are lent, by any pointer that is not null */
-    w = bafirolen_write_header_body(numbers, id, sizeof id, text, 0, text, sizeof text, pairs, 4, keys, 6, out, sizeof out);
-    if (w.number != BAFIROLEN_ACCEPTED) {
-        fprintf(stderr, "refusal %llu\n", (unsigned long long)w.number);
+    if (other_version(program)) {
         return 1;
     }
+    if (argc != 2) {
+        return usage("file_header FILE");
+    }
+    /* version 1 has no suite data */
+    w = bafirolen_write_header_body(numbers, id, sizeof id, NULL, 0, text, sizeof text, pairs, 4, keys, 6, out, sizeof out);
+    if (w.number != BAFIROLEN_ACCEPTED) {
+        return refused(program, w.number, w.position);
+    }
     if (!reads_back(out, (size_t)w.length)) {
-        fputs("what was read back is not what was written\n", stderr);
+        fprintf(stderr, "%s: what was read back is not what was written\n", program);
         return 1;
     }
     if (!file(argv[1], out, (size_t)w.length)) {
-        perror(argv[1]);
-        return 1;
+        return file_failed(program, argv[1]);
     }
-    printf("filed %llu bytes\n", (unsigned long long)w.length);
-    return 0;
+    printf("filed %" PRIu64 " bytes\n", w.length);
+    return printed(program);
 }

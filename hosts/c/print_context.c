@@ -4,11 +4,13 @@
  *     gcc -std=c99 -O2 -Wall -Wextra -Iinclude hosts/c/print_context.c target/staticlib/libbafirolen_c.a -o target/print_context
  *     target/print_context FILE
  */
-#include "bafirolen.h"
+#include "example.h"
 #include "message.h"
 
-/* tables that hold whatever a header can have: pairs of at least four bytes each in fewer than 65,534, and 65,535 keys */
-static uint32_t pairs[4 * 16383], keys[6 * 65535];
+static const char program[] = "print_context";
+
+/* tables that hold whatever a header can have */
+static uint32_t pairs[BAFIROLEN_LARGEST_PAIR_TABLE], keys[BAFIROLEN_LARGEST_KEY_TABLE];
 
 static void print_part(const uint8_t *message, const uint32_t *place, const char *behind)
 {
@@ -16,29 +18,37 @@ static void print_part(const uint8_t *message, const uint32_t *place, const char
     fputs(behind, stdout);
 }
 
+static int print(const uint8_t *message, size_t length)
+{
+    size_t i;
+    const BafirolenBody b = bafirolen_read_header_body(message, length, 0, BAFIROLEN_EITHER, BAFIROLEN_TOLERANT, BAFIROLEN_NO_MAX, 0,
+                                                       pairs, BAFIROLEN_LARGEST_PAIR_TABLE, keys, BAFIROLEN_LARGEST_KEY_TABLE);
+    if (b.number != BAFIROLEN_ACCEPTED) {
+        return refused(program, b.number, b.position);
+    }
+    for (i = 0; i < b.pairCount; i++) {
+        print_part(message, pairs + BAFIROLEN_NUMBERS_PER_PAIR * i, " = ");
+        print_part(message, pairs + BAFIROLEN_NUMBERS_PER_PAIR * i + 2, "\n");
+    }
+    return printed(program);
+}
+
 int main(int argc, char **argv)
 {
-    size_t length, i;
+    size_t length;
     uint8_t *message;
-    BafirolenBody b;
+    int status;
+    if (other_version(program)) {
+        return 1;
+    }
     if (argc != 2) {
-        fputs("print_context FILE\n", stderr);
-        return 2;
+        return usage("print_context FILE");
     }
     message = message_of(argv[1], &length);
     if (message == NULL) {
-        return 1;
+        return file_failed(program, argv[1]);
     }
-    b = bafirolen_read_header_body(message, length, 0, BAFIROLEN_EITHER, BAFIROLEN_TOLERANT, BAFIROLEN_NO_MAX, 0, pairs,
-                                sizeof pairs / sizeof *pairs, keys, sizeof keys / sizeof *keys);
-    if (b.number != BAFIROLEN_ACCEPTED) {
-        free(message);
-        return refused(b.number, b.position);
-    }
-    for (i = 0; i < b.pairCount; i++) {
-        print_part(message, pairs + 4 * i, " = ");
-        print_part(message, pairs + 4 * i + 2, "\n");
-    }
+    status = print(message, length);
     free(message);
-    return 0;
+    return status;
 }
