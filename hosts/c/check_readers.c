@@ -1,12 +1,24 @@
 /*
- * A host in C: calls every exported operation that reads but one, and compares each number that it answers, and each byte and table entry
- * that it was lent, with what document 01 says. Writes `compared N cases`; a difference is written to standard error, and the exit
- * status is 1. check_writers.c does the same for what writes, and for reading authentication records.
+ * A host in C: calls every exported operation that reads but one, and compares each number that it answers, and each byte and
+ * table entry that it was lent, with what document 01 says. Writes `compared N cases`; a difference is written to standard error,
+ * and the exit status is 1. check_writers.c does the same for what writes, and for reading authentication records.
  *
  *     rt staticlib bafirolen_c
  *     gcc -std=c99 -O2 -Wall -Wextra -Iinclude hosts/c/check_readers.c target/staticlib/libbafirolen_c.a -o target/check_readers
  */
 #include "compare.h"
+
+/* what an accepted message here leaves in the tables: H's pair, or none; H's key, as much earlier as the tail is, or none */
+static void tables_are(const char *what, BafirolenBody b)
+{
+    uint32_t earlier[6];
+    size_t i;
+    for (i = 0; i < 6; i++) {
+        earlier[i] = H_keys[i] - (i % 2 == 0 && b.keyCount == 1 ? (uint32_t)(58 - b.tail) : 0);
+    }
+    table_is(what, pairs, H_pairs, 4 * b.pairCount);
+    table_is(what, keys, earlier, 6 * b.keyCount);
+}
 
 /* which, mode, has_max, max, numbers lent for pairs and for keys: number and position */
 static void read_as(const char *what, const uint8_t *m, size_t n, uint64_t start, const uint64_t q[6], uint64_t number,
@@ -18,18 +30,20 @@ static void read_as(const char *what, const uint8_t *m, size_t n, uint64_t start
     b = bafirolen_read_header_body(m, n, start, (uint32_t)q[0], (uint32_t)q[1], (uint32_t)q[2], q[3], pairs, q[4], keys, q[5]);
     same(what, b.number, number);
     same(what, b.position, position);
-    if (number != BAFIROLEN_ACCEPTED) {
+    if (number == BAFIROLEN_ACCEPTED) {
+        same(what, b.tail, n);
+    } else {
         b.number = b.position = 0;
         body_is(what, b, none);
-        table_is(what, pairs, fresh_numbers, 0);
-        table_is(what, keys, fresh_numbers, 0);
     }
+    tables_are(what, b);
 }
 
 static void read_bodies(void)
 {
     static const uint64_t want[15] = {0, 0, 1, 0x80, 0x0178, 2, 12, 4096, 4, 16, 1, 1, 0, 0, 58};
-    static const uint64_t plain[6] = {0, 0, 0, 0, NUMBERS, NUMBERS}, few_pairs[6] = {0, 0, 0, 0, 3, 6}, few_keys[6] = {0, 0, 0, 0, 4, 5};
+    static const uint64_t plain[6] = {0, 0, 0, 0, NUMBERS, NUMBERS};
+    static const uint64_t few_pairs[6] = {0, 0, 0, 0, 3, 6}, few_keys[6] = {0, 0, 0, 0, 4, 5};
     static const uint64_t one[6] = {1, 0, 0, 0, 4, 6}, two[6] = {2, 0, 0, 0, 4, 6}, other[6] = {255, 0, 0, 0, 4, 6};
     static const uint64_t no_key[6] = {0, 0, 1, 0, 4, 6}, one_key[6] = {0, 1, 255, 1, 4, 6};
     struct {
@@ -70,6 +84,14 @@ static void numbers_and_positions(void)
     same("position of a long start", bafirolen_header_position(H, 58, UINT64_MAX), 0);
 }
 
+static void section_is(const char *what, BafirolenSection s, uint64_t number, uint64_t position, uint64_t count, uint64_t tail)
+{
+    same(what, s.number, number);
+    same(what, s.position, position);
+    same(what, s.count, count);
+    same(what, s.tail, tail);
+}
+
 static void sections(void)
 {
     static const struct {
@@ -95,29 +117,26 @@ static void sections(void)
     for (i = 0; i < COUNT(rows); i++) {
         fresh();
         s = bafirolen_read_aad_section(rows[i].bytes, rows[i].len, 0, rows[i].mode, pairs, 4);
-        same("a section's number", s.number, rows[i].number);
-        same("a section's position", s.position, rows[i].position);
-        same("a section's count", s.count, rows[i].count);
-        same("a section's tail", s.tail, rows[i].tail);
+        section_is("a section", s, rows[i].number, rows[i].position, rows[i].count, rows[i].tail);
         table_is("a section's table", pairs, empty_pair, rows[i].count * 4u);
     }
-    s = bafirolen_read_encrypted_data_keys_section(H, 58, 34, BAFIROLEN_NO_MAX, 0, keys, NUMBERS);
-    same("the key section", s.number, 0);
-    same("the key section's count", s.count, 1);
-    same("the key section's tail", s.tail, 48);
-    table_is("the key section's table", keys, H_keys, 6);
-    s = bafirolen_read_encrypted_data_keys_section(H, 58, 34, BAFIROLEN_AT_MOST, 0, pairs, NUMBERS);
-    same("a maximum of 0", s.number, BAFIROLEN_TOO_MANY_KEYS);
-    s = bafirolen_read_encrypted_data_keys_section(H, 40, 34, BAFIROLEN_AT_MOST, UINT64_MAX, pairs, NUMBERS);
-    same("a key section cut", s.number, BAFIROLEN_SHORTAGE);
-    same("a key section cut", s.position, 42);
 }
 
-static void copied_is(const char *what, BafirolenWritten c, uint64_t number, uint64_t position, uint64_t length)
+/* the key section of the first n bytes of H */
+static void keys_as(const char *what, size_t n, uint32_t has_max, uint64_t max, uint64_t number, uint64_t position)
 {
-    same(what, c.number, number);
-    same(what, c.position, position);
-    same(what, c.length, length);
+    BafirolenSection s;
+    fresh();
+    s = bafirolen_read_encrypted_data_keys_section(H, n, 34, has_max, max, keys, NUMBERS);
+    section_is(what, s, number, position, number == 0 ? 1 : 0, number == 0 ? 48 : 0);
+    table_is(what, keys, H_keys, number == 0 ? 6 : 0);
+}
+
+static void key_sections(void)
+{
+    keys_as("the key section", 58, BAFIROLEN_NO_MAX, 0, 0, 0);
+    keys_as("a maximum of 0", 58, BAFIROLEN_AT_MOST, 0, BAFIROLEN_TOO_MANY_KEYS, 0);
+    keys_as("a key section cut", 40, BAFIROLEN_AT_MOST, UINT64_MAX, BAFIROLEN_SHORTAGE, 42);
 }
 
 static void find(void)
@@ -125,7 +144,10 @@ static void find(void)
     static const struct {
         const char *key;
         uint64_t number, start, len;
-    } rows[] = {{"lang", 0, 32, 2}, {"lan", BAFIROLEN_NOT_FOUND, 0, 0}, {"langu", BAFIROLEN_NOT_FOUND, 0, 0}, {"", BAFIROLEN_NOT_FOUND, 0, 0}};
+    } rows[] = {{"lang", 0, 32, 2},
+                {"lan", BAFIROLEN_NOT_FOUND, 0, 0},
+                {"langu", BAFIROLEN_NOT_FOUND, 0, 0},
+                {"", BAFIROLEN_NOT_FOUND, 0, 0}};
     BafirolenPlace p;
     size_t i;
     for (i = 0; i < COUNT(rows); i++) {
@@ -137,24 +159,106 @@ static void find(void)
     }
     for (i = 0; i < COUNT(rows); i++) {
         fresh();
-        copied_is(rows[i].key, bafirolen_copy_value(H, 58, 20, (const uint8_t *)rows[i].key, strlen(rows[i].key), out, BYTES),
-                  rows[i].number, 0, rows[i].len);
+        written_at(rows[i].key, bafirolen_copy_value(H, 58, 20, (const uint8_t *)rows[i].key, strlen(rows[i].key), out, BYTES),
+                   rows[i].number, 0, rows[i].len);
         output_is(rows[i].key, H + rows[i].start, rows[i].len);
     }
     fresh();
-    copied_is("a value into 1 byte", bafirolen_copy_value(H, 58, 20, (const uint8_t *)"lang", 4, out, 1), BAFIROLEN_OUTPUT_TOO_SHORT, 0, 0);
+    written_is("a value into 1 byte", bafirolen_copy_value(H, 58, 20, (const uint8_t *)"lang", 4, out, 1),
+               BAFIROLEN_OUTPUT_TOO_SHORT, 0);
     output_is("a value into 1 byte", fresh_bytes, 0);
-    copied_is("a copy of a section cut", bafirolen_copy_value(H, 30, 20, H, 0, out, BYTES), BAFIROLEN_SHORTAGE, 34, 0);
+    written_at("a copy of a section cut", bafirolen_copy_value(H, 30, 20, H, 0, out, BYTES), BAFIROLEN_SHORTAGE, 34, 0);
+    output_is("a copy of a section cut", fresh_bytes, 0);
     p = bafirolen_find_value(H, 30, 20, H, 0);
     same("a section cut", p.number, BAFIROLEN_SHORTAGE);
     same("a section cut", p.position, 34);
+    same("a section cut", p.start, 0);
+    same("a section cut", p.len, 0);
+}
+
+/* numbers for which, mode and has_max that name nothing: some of them have the lowest 8 or 16 bits of one that does */
+static const uint32_t unknown[] = {3, 255, 256, 257, 258, 0x10000, 0x10001, 0x10002, 0x80000000u, 0xFFFFFFFFu};
+
+/* a header of either version that breaks refusal 20 alone is refused by the reader of either version, and by no other */
+static void unknown_versions(void)
+{
+    static const struct {
+        size_t which, content, frame, len;
+        uint8_t content_type, frame_length;
+    } rows[] = {{1, 48, 57, 58, 2, 0}, {1, 48, 57, 58, 1, 16}, {2, 39, 43, 76, 2, 0}, {2, 39, 43, 76, 1, 16}};
+    uint8_t m[76];
+    size_t i, k;
+    for (i = 0; i < COUNT(rows); i++) {
+        uint64_t q[6] = {0, 0, 0, 0, NUMBERS, NUMBERS};
+        memset(m, 0, sizeof m);
+        memcpy(m, rows[i].which == 1 ? H : (const uint8_t *)"\x02\x05\x78", rows[i].which == 1 ? 54 : 3);
+        m[rows[i].content] = rows[i].content_type;
+        m[rows[i].frame] = rows[i].frame_length;
+        read_as("20, either version", m, rows[i].len, 0, q, BAFIROLEN_FRAME_LENGTH, 0);
+        for (k = 0; k < COUNT(unknown); k++) {
+            q[0] = unknown[k];
+            read_as("20, a number that names no version", m, rows[i].len, 0, q, BAFIROLEN_FRAME_LENGTH, 0);
+        }
+        q[0] = rows[i].which;
+        read_as("20, its version", m, rows[i].len, 0, q, BAFIROLEN_ACCEPTED, 0);
+        q[0] = 3 - rows[i].which;
+        read_as("20, the other version", m, rows[i].len, 0, q, BAFIROLEN_OTHER_VERSION, 0);
+    }
+}
+
+/* an empty context in its old form is accepted by the tolerant reader alone, in a section and in a body */
+static void unknown_modes(void)
+{
+    uint8_t m[48];
+    uint64_t q[6] = {0, 0, 0, 0, NUMBERS, NUMBERS};
+    BafirolenSection s;
+    size_t k;
+    memcpy(m, H, 20);
+    memcpy(m + 20, "\0\2\0\0", 4);
+    memcpy(m + 24, H + 34, 24);
+    s = bafirolen_read_aad_section(m, 48, 20, BAFIROLEN_TOLERANT, pairs, NUMBERS);
+    section_is("the old form, tolerant", s, 0, 0, 0, 24);
+    read_as("a body of the old form, tolerant", m, 48, 0, q, BAFIROLEN_ACCEPTED, 0);
+    q[1] = BAFIROLEN_STRICT;
+    read_as("a body of the old form, strict", m, 48, 0, q, BAFIROLEN_OLD_EMPTY_CONTEXT, 0);
+    for (k = 0; k < COUNT(unknown); k++) {
+        fresh();
+        s = bafirolen_read_aad_section(m, 48, 20, unknown[k], pairs, NUMBERS);
+        section_is("the old form, a number that names no mode", s, BAFIROLEN_OLD_EMPTY_CONTEXT, 0, 0, 0);
+        table_is("the old form, a number that names no mode", pairs, fresh_numbers, 0);
+        q[1] = unknown[k];
+        read_as("a body, a number that names no mode", m, 48, 0, q, BAFIROLEN_OLD_EMPTY_CONTEXT, 0);
+        read_as("H, a number that names no mode", H, 58, 0, q, BAFIROLEN_ACCEPTED, 0);
+    }
+}
+
+/* the maximum is looked at unless has_max is 0 */
+static void unknown_maxima(void)
+{
+    uint64_t q[6] = {0, 0, 0, 0, NUMBERS, NUMBERS};
+    size_t k;
+    read_as("no maximum", H, 58, 0, q, BAFIROLEN_ACCEPTED, 0);
+    for (k = 0; k < COUNT(unknown); k++) {
+        keys_as("at most 0 keys", 58, unknown[k], 0, BAFIROLEN_TOO_MANY_KEYS, 0);
+        keys_as("at most 1 key", 58, unknown[k], 1, BAFIROLEN_ACCEPTED, 0);
+        q[2] = unknown[k];
+        q[3] = 0;
+        read_as("a body of at most 0 keys", H, 58, 0, q, BAFIROLEN_TOO_MANY_KEYS, 0);
+        q[3] = 1;
+        read_as("a body of at most 1 key", H, 58, 0, q, BAFIROLEN_ACCEPTED, 0);
+    }
 }
 
 int main(void)
 {
+    same("the version of the declarations", bafirolen_version(), BAFIROLEN_VERSION);
     read_bodies();
     numbers_and_positions();
     sections();
+    key_sections();
     find();
+    unknown_versions();
+    unknown_modes();
+    unknown_maxima();
     return compared();
 }

@@ -18,6 +18,7 @@ static void write_sections(void)
     output_is("an output of 13", fresh_bytes, 0);
     w = bafirolen_write_aad_section(H, 58, H_pairs, 3, out, BYTES);
     written_is("a table of 3", w, BAFIROLEN_TABLE_OR_PLACE, 0);
+    output_is("a table of 3", fresh_bytes, 0);
     w = bafirolen_write_aad_section(H, 58, outside, 4, out, BYTES);
     written_is("a place outside", w, BAFIROLEN_TABLE_OR_PLACE, 0);
     output_is("a place outside", fresh_bytes, 0);
@@ -58,7 +59,9 @@ static void write_bodies(void)
                     {"IV length", {1, 0x80, 0x0178, 2, 13, 4096}, BAFIROLEN_IV_LENGTH},
                     {"IV length 10C", {1, 0x80, 0x0178, 2, 0x10C, 4096}, BAFIROLEN_IV_LENGTH},
                     {"frame length", {1, 0x80, 0x0178, 2, 12, 0}, BAFIROLEN_FRAME_LENGTH}};
+    static const uint32_t V2_pairs[4] = {41, 4, 47, 2};
     BafirolenWritten w;
+    BafirolenBody b;
     size_t i;
     write_with("H written", n, 16, 58, 0);
     output_is("H written", H, 58);
@@ -78,21 +81,37 @@ static void write_bodies(void)
     same_bytes("version 2", out + 35, H + 20, 14);
     same_bytes("version 2", out + 56, H + 20, 32);
     same_bytes("version 2", out + 88, fresh_bytes, BYTES - 88);
-    body_is("version 2", bafirolen_read_header_body(out, 88, 0, BAFIROLEN_V2_ONLY, BAFIROLEN_STRICT, 1, 0, pairs, 4, keys, 0), want);
+    b = bafirolen_read_header_body(out, 88, 0, BAFIROLEN_V2_ONLY, BAFIROLEN_STRICT, BAFIROLEN_AT_MOST, 0, pairs, 4, keys, 0);
+    body_is("version 2", b, want);
+    table_is("version 2", pairs, V2_pairs, 4);
+    table_is("version 2", keys, fresh_numbers, 0);
 }
 
-static void auth(void)
+static const uint8_t iv[12] = {1, 2, 3, 4, 5, 6, 7, 8, 9, 10, 11, 12};
+static const uint8_t tag[16] = {201, 202, 203, 204, 205, 206, 207, 208, 209, 210, 211, 212, 213, 214, 215, 216};
+
+/* a record that was read, or none where it was refused */
+static void record_is(const char *what, BafirolenAuth a, const uint64_t want[3], const uint8_t *iv, const uint8_t *tag)
 {
-    static const uint8_t iv[12] = {1, 2, 3, 4, 5, 6, 7, 8, 9, 10, 11, 12}, no_iv[12], no_tag[16];
-    static const uint8_t tag[16] = {201, 202, 203, 204, 205, 206, 207, 208, 209, 210, 211, 212, 213, 214, 215, 216};
+    same(what, a.number, want[0]);
+    same(what, a.position, want[1]);
+    same(what, a.tail, want[2]);
+    same_bytes(what, a.iv, iv, 12);
+    same_bytes(what, a.tag, tag, 16);
+}
+
+static void write_records(void)
+{
     static const struct {
         uint32_t suite;
         size_t iv, tag, room;
         uint64_t number;
-    } refusals[] = {{0, 0, 0, 0, BAFIROLEN_UNKNOWN_SUITE}, {0x10178, 12, 16, 28, BAFIROLEN_UNKNOWN_SUITE}, {0x0178, 11, 0, 0, BAFIROLEN_IV_LENGTH},
-                    {0x0478, 12, 15, 0, BAFIROLEN_TAG_LENGTH}, {0x0178, 12, 16, 27, BAFIROLEN_OUTPUT_TOO_SHORT}};
+    } refusals[] = {{0, 0, 0, 0, BAFIROLEN_UNKNOWN_SUITE},
+                    {0x10178, 12, 16, 28, BAFIROLEN_UNKNOWN_SUITE},
+                    {0x0178, 11, 0, 0, BAFIROLEN_IV_LENGTH},
+                    {0x0478, 12, 15, 0, BAFIROLEN_TAG_LENGTH},
+                    {0x0178, 12, 16, 27, BAFIROLEN_OUTPUT_TOO_SHORT}};
     BafirolenWritten w;
-    BafirolenAuth a;
     size_t i;
     fresh();
     for (i = 0; i < COUNT(refusals); i++) {
@@ -102,40 +121,45 @@ static void auth(void)
     }
     w = bafirolen_write_header_auth_tag(0x0178, iv, 12, tag, 16, out + 3, 28);
     written_is("a record of version 1", w, 0, 28);
-    a = bafirolen_read_header_auth_tag(out, 31, 3, 0x0178);
-    same("a record of version 1", a.number == 0 && a.position == 0, 1);
-    same("a record of version 1", a.tail, 31);
-    same_bytes("its IV", a.iv, iv, 12);
-    same_bytes("its tag", a.tag, tag, 16);
+    same_bytes("before it", out, fresh_bytes, 3);
+    same_bytes("its IV", out + 3, iv, 12);
+    same_bytes("its tag", out + 15, tag, 16);
+    same_bytes("behind it", out + 31, fresh_bytes + 31, BYTES - 31);
     fresh();
     w = bafirolen_write_header_auth_tag(0x0578, iv, 12, tag, 16, out, BYTES);
     written_is("a record of version 2", w, 0, 16);
     output_is("a record of version 2", tag, 16);
-    a = bafirolen_read_header_auth_tag(out, BYTES, 0, 0x0578);
-    same("a record of version 2", a.tail, 16);
-    same_bytes("its IV", a.iv, no_iv, 12);
-    same_bytes("its tag", a.tag, tag, 16);
-    a = bafirolen_read_header_auth_tag(out, 27, 0, 0x0014);
-    same("a record cut", a.number, BAFIROLEN_SHORTAGE);
-    same("a record cut", a.position, 28);
-    same("a record cut", a.tail, 0);
-    same_bytes("a record cut", a.iv, no_iv, 12);
-    same_bytes("a record cut", a.tag, no_tag, 16);
-    same("an unknown suite", bafirolen_read_header_auth_tag(out, 27, 0, 0x1400).number, BAFIROLEN_UNKNOWN_SUITE);
-    same("a suite of 17 bits", bafirolen_read_header_auth_tag(out, BYTES, 0, 0x10578).number, BAFIROLEN_UNKNOWN_SUITE);
+}
+
+static void read_records(void)
+{
+    static const uint64_t accepted[3] = {0, 0, 31}, of_2[3] = {0, 0, 19}, of_2_first[3] = {0, 0, 16};
+    static const uint64_t cut[3] = {BAFIROLEN_SHORTAGE, 31, 0}, cut_first[3] = {BAFIROLEN_SHORTAGE, 28, 0};
+    static const uint64_t unknown[3] = {BAFIROLEN_UNKNOWN_SUITE, 0, 0};
+    static const uint8_t none[16];
+    uint8_t m[31];
+    memset(m, KEPT, 3);
+    memcpy(m + 3, iv, 12);
+    memcpy(m + 15, tag, 16);
+    record_is("a record of version 1", bafirolen_read_header_auth_tag(m, 31, 3, 0x0178), accepted, iv, tag);
+    memcpy(m + 3, tag, 16);
+    record_is("a record of version 2", bafirolen_read_header_auth_tag(m, 31, 3, 0x0578), of_2, none, tag);
+    record_is("a record of version 2 at 0", bafirolen_read_header_auth_tag(m + 3, 28, 0, 0x0578), of_2_first, none, tag);
+    record_is("a record cut", bafirolen_read_header_auth_tag(m, 30, 3, 0x0014), cut, none, none);
+    record_is("a record at 0 cut", bafirolen_read_header_auth_tag(m, 27, 0, 0x0014), cut_first, none, none);
+    record_is("an unknown suite", bafirolen_read_header_auth_tag(m, 31, 3, 0x1400), unknown, none, none);
+    record_is("a suite of 17 bits", bafirolen_read_header_auth_tag(m, 31, 3, 0x10578), unknown, none, none);
 }
 
 static void listings(void)
 {
-    static const char of_H[] = "header\t1\t80\t0178\t02\t4096\t58\nid\t000102030405060708090a0b0c0d0e0f\n"
-                               "pair\t6c616e67\t6379\nkey\t7031\t61\taabbcc\n";
     static const char of_a_cut[] = "refused\t2\t58\n";
-    const size_t n = sizeof of_H - 1;
+    const size_t n = sizeof H_listing - 1;
     BafirolenWritten w;
     fresh();
     w = bafirolen_write_listing(H, 58, out, n);
     written_is("H's listing", w, 0, n);
-    output_is("H's listing", (const uint8_t *)of_H, n);
+    output_is("H's listing", (const uint8_t *)H_listing, n);
     fresh();
     w = bafirolen_write_listing(H, 58, out, n - 1);
     written_is("no room for H's listing", w, BAFIROLEN_OUTPUT_TOO_SHORT, 0);
@@ -149,7 +173,8 @@ int main(void)
 {
     write_sections();
     write_bodies();
-    auth();
+    write_records();
+    read_records();
     listings();
     return compared();
 }

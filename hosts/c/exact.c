@@ -44,7 +44,7 @@ static void let_go(void)
 }
 
 /* the same body by exact buffers: message of n bytes, tables of np and nk numbers */
-static void read_body(const uint8_t *m, size_t n, uint8_t which, uint8_t mode, size_t np, size_t nk)
+static void read_body(const uint8_t *m, size_t n, uint32_t which, uint32_t mode, size_t np, size_t nk)
 {
     uint32_t *p, *k;
     BafirolenBody exact, roomy;
@@ -92,6 +92,7 @@ static void read_parts(const uint8_t *m, size_t n, uint64_t start, size_t np, si
     b = bafirolen_read_header_auth_tag(m, n, start, 0x0178);
     same("a record", a.number, b.number);
     same("a record", a.position, b.position);
+    same("a record", a.tail, b.tail);
     same_bytes("its IV", a.iv, b.iv, sizeof a.iv);
     same_bytes("its tag", a.tag, b.tag, sizeof a.tag);
     same("number", bafirolen_header_number(message, n, start), bafirolen_header_number(m, n, start));
@@ -124,7 +125,8 @@ static void write_again(const uint8_t *m, size_t n)
     const uint32_t *p, *k;
     size_t room;
     fresh();
-    b = bafirolen_read_header_body(m, n, 0, BAFIROLEN_EITHER, BAFIROLEN_STRICT, BAFIROLEN_NO_MAX, 0, pairs, NUMBERS, keys, NUMBERS);
+    b = bafirolen_read_header_body(m, n, 0, BAFIROLEN_EITHER, BAFIROLEN_STRICT, BAFIROLEN_NO_MAX, 0, pairs, NUMBERS, keys,
+                                   NUMBERS);
     same("a header", b.number, BAFIROLEN_ACCEPTED);
     for (room = 0; room <= n; room++) {
         uint8_t *o = lend(fresh_bytes, room);
@@ -141,10 +143,21 @@ static void write_again(const uint8_t *m, size_t n)
     }
 }
 
+/* an output of `room` bytes holds these n, or none where there is no room for them, and keeps the others; it is then filled anew */
+static void holds(const char *what, BafirolenWritten w, uint8_t *o, size_t room, const void *bytes, size_t n)
+{
+    const size_t front = room < n ? 0 : n;
+    written_is(what, w, room < n ? BAFIROLEN_OUTPUT_TOO_SHORT : 0, front);
+    same_bytes(what, o, bytes, front);
+    same_bytes(what, o + front, fresh_bytes + front, room - front);
+    memset(o, KEPT, room);
+}
+
 /* a context section, a key section, a record and a listing at every room up to their lengths */
 static void write_parts(void)
 {
-    static const uint8_t iv[12], tag[16];
+    static const uint8_t record[28] = {1,  2,  3,  4,  5,  6,  7,  8,  9,  10, 11, 12, 13, 14,
+                                       15, 16, 17, 18, 19, 20, 21, 22, 23, 24, 25, 26, 27, 28};
     size_t room;
     uint8_t *o;
     const uint8_t *text;
@@ -154,17 +167,17 @@ static void write_parts(void)
         o = lend(fresh_bytes, room);
         text = lend(H, 58);
         w = bafirolen_write_aad_section(text, 58, lend(H_pairs, sizeof H_pairs), 4, o, room);
-        written_is("a context section", w, room < 14 ? BAFIROLEN_OUTPUT_TOO_SHORT : 0, room < 14 ? 0 : 14);
+        holds("a context section", w, o, room, H + 20, 14);
         w = bafirolen_write_encrypted_data_keys_section(text, 58, lend(H_keys, sizeof H_keys), 6, o, room);
-        written_is("a key section", w, room < 14 ? BAFIROLEN_OUTPUT_TOO_SHORT : 0, room < 14 ? 0 : 14);
-        w = bafirolen_write_header_auth_tag(0x0014, lend(iv, 12), 12, lend(tag, 16), 16, o, room);
-        written_is("a record", w, room < 28 ? BAFIROLEN_OUTPUT_TOO_SHORT : 0, room < 28 ? 0 : 28);
+        holds("a key section", w, o, room, H + 34, 14);
+        w = bafirolen_write_header_auth_tag(0x0014, lend(record, 12), 12, lend(record + 12, 16), 16, o, room);
+        holds("a record", w, o, room, record, 28);
         let_go();
     }
     for (room = 0; room <= 102; room++) {
         o = lend(fresh_bytes, room);
         w = bafirolen_write_listing(lend(H, 58), 58, o, room);
-        written_is("a listing", w, room < 102 ? BAFIROLEN_OUTPUT_TOO_SHORT : 0, room < 102 ? 0 : 102);
+        holds("a listing", w, o, room, H_listing, 102);
         let_go();
     }
 }

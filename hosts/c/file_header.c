@@ -31,7 +31,8 @@ static int same_parts(const uint8_t *header, const uint32_t *read, const uint32_
 static int reads_back(const uint8_t *header, size_t length)
 {
     uint32_t p[4], k[6];
-    BafirolenBody b = bafirolen_read_header_body(header, length, 0, BAFIROLEN_EITHER, BAFIROLEN_STRICT, BAFIROLEN_NO_MAX, 0, p, 4, k, 6);
+    const BafirolenBody b =
+        bafirolen_read_header_body(header, length, 0, BAFIROLEN_EITHER, BAFIROLEN_STRICT, BAFIROLEN_NO_MAX, 0, p, 4, k, 6);
     return b.number == BAFIROLEN_ACCEPTED && b.tail == length && memcmp(&b.numbers, &numbers, sizeof numbers) == 0
            && b.messageIdLen == sizeof id && memcmp(header + b.messageIdStart, id, sizeof id) == 0 && b.suiteDataLen == 0
            && b.pairCount == 1 && b.keyCount == 1 && same_parts(header, p, pairs, 4) && same_parts(header, k, keys, 6);

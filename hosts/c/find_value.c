@@ -16,8 +16,9 @@ static uint32_t pairs[BAFIROLEN_LARGEST_PAIR_TABLE], keys[BAFIROLEN_LARGEST_KEY_
 static int find(const uint8_t *message, size_t length, const char *key)
 {
     BafirolenPlace p;
-    const BafirolenBody b = bafirolen_read_header_body(message, length, 0, BAFIROLEN_EITHER, BAFIROLEN_TOLERANT, BAFIROLEN_NO_MAX, 0,
-                                                       pairs, BAFIROLEN_LARGEST_PAIR_TABLE, keys, BAFIROLEN_LARGEST_KEY_TABLE);
+    const BafirolenBody b =
+        bafirolen_read_header_body(message, length, 0, BAFIROLEN_EITHER, BAFIROLEN_TOLERANT, BAFIROLEN_NO_MAX, 0, pairs,
+                                   BAFIROLEN_LARGEST_PAIR_TABLE, keys, BAFIROLEN_LARGEST_KEY_TABLE);
     if (b.number != BAFIROLEN_ACCEPTED) {
         return refused(program, b.number, b.position);
     }

@@ -21,8 +21,9 @@ static void print_part(const uint8_t *message, const uint32_t *place, const char
 static int print(const uint8_t *message, size_t length)
 {
     size_t i;
-    const BafirolenBody b = bafirolen_read_header_body(message, length, 0, BAFIROLEN_EITHER, BAFIROLEN_TOLERANT, BAFIROLEN_NO_MAX, 0,
-                                                       pairs, BAFIROLEN_LARGEST_PAIR_TABLE, keys, BAFIROLEN_LARGEST_KEY_TABLE);
+    const BafirolenBody b =
+        bafirolen_read_header_body(message, length, 0, BAFIROLEN_EITHER, BAFIROLEN_TOLERANT, BAFIROLEN_NO_MAX, 0, pairs,
+                                   BAFIROLEN_LARGEST_PAIR_TABLE, keys, BAFIROLEN_LARGEST_KEY_TABLE);
     if (b.number != BAFIROLEN_ACCEPTED) {
         return refused(program, b.number, b.position);
     }
