@@ -143,7 +143,7 @@ static void write_again(const uint8_t *m, size_t n)
     }
 }
 
-/* an output of `room` bytes holds these n, or none where there is no room for them, and keeps the others; it is then filled anew */
+/* an output of `room` bytes holds these n, or none where they have no room, and keeps the others; it is then filled anew */
 static void holds(const char *what, BafirolenWritten w, uint8_t *o, size_t room, const void *bytes, size_t n)
 {
     const size_t front = room < n ? 0 : n;
