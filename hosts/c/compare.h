@@ -8,7 +8,7 @@
 #include <string.h>
 
 #define NUMBERS 64
-#define BYTES 128
+#define BYTES 256
 #define KEPT 0xEE
 #define KEPT_NUMBER 0xEEEEEEEEu
 #define COUNT(array) (sizeof(array) / sizeof(array)[0])

@@ -19,7 +19,7 @@
 #include <unistd.h>
 
 #define PAINT 0xA5
-#define GUARD 65536
+#define GUARD 1048576
 
 /* what a call is lent to change, and what it answers */
 struct lent {
@@ -215,7 +215,7 @@ static void accepted(const struct export *e)
     }
 }
 
-/* first on the program's own stack: the dynamic linker takes room as well, when memset and memcpy are called for the first time */
+/* first on the program's own stack: when memset and memcpy are called for the first time, the dynamic linker takes room too */
 static void run(struct export *e)
 {
     size_t most;

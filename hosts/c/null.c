@@ -1,0 +1,259 @@
+/*
+ * Null pointers with length 0: every export with each set of its lent parts left empty, once by null and once by a pointer behind
+ * an allocation, where a memory checker sees a read or a store. What is answered, and every table and output, is the same; and
+ * some of it is compared with what document 01 says. Writes `compared N cases`; a difference is written to standard error, and
+ * the exit status is 1.
+ *
+ *     rt staticlib bafirolen_c
+ *     gcc -std=c99 -O2 -Wall -Wextra -Iinclude hosts/c/null.c target/staticlib/libbafirolen_c.a -o target/null
+ *     valgrind --error-exitcode=1 target/null
+ */
+#include "compare.h"
+
+#include <stdlib.h>
+
+/* a header without pairs and keys; and one of version 2 whose pair and key have empty parts only, its ID and suite data all 00 */
+static const uint8_t BARE[34] = {0x01, 0x80, 0x01, 0x78, 0, 1, 2, 3, 4, 5, 6, 7, 8, 9, 10, 11, 12, 13, 14, 15,
+                                 0, 0, 0, 0, 0x02, 0, 0, 0, 0, 0x0C, 0, 0, 0x10, 0};
+static const uint8_t HOLLOW[88] = {[0] = 0x02, [1] = 0x05, [2] = 0x78, [36] = 6, [38] = 1, [44] = 1, [51] = 0x02, [54] = 0x10};
+static const uint32_t HOLLOW_pairs[4] = {41, 0, 43, 0}, HOLLOW_keys[6] = {47, 0, 49, 0, 51, 0};
+
+/* one of the headers, the places of its sections, its fields, and a key to find */
+static const struct header {
+    const uint8_t *bytes;
+    size_t length;
+    uint64_t context, keys;
+    BafirolenNumbers numbers;
+    size_t id, id_length, data, data_length, pair_numbers, key_numbers;
+    const uint32_t *pair_table, *key_table;
+    const char *key;
+} headers[] = {{H, 58, 20, 34, {1, 0x80, 0x0178, 2, 12, 4096}, 4, 16, 0, 0, 4, 6, H_pairs, H_keys, "lang"},
+               {BARE, 34, 20, 22, {1, 0x80, 0x0178, 2, 12, 4096}, 4, 16, 0, 0, 0, 0, H_pairs, H_keys, "lang"},
+               {HOLLOW, 88, 35, 43, {2, 0, 0x0578, 2, 0, 4096}, 3, 32, 56, 32, 4, 6, HOLLOW_pairs, HOLLOW_keys, ""}};
+static const struct header *h;
+
+/* which of a call's lent parts are empty, in their order, and the pointer that those have */
+static unsigned empty;
+static void *empty_part;
+
+#define LENT(part, bytes, length) (empty >> (part)&1 ? empty_part : (void *)(bytes)), (empty >> (part)&1 ? 0 : (length))
+#define MESSAGE LENT(0, h->bytes, h->length)
+
+static struct answer {
+    union {
+        BafirolenBody body;
+        BafirolenSection section;
+        BafirolenPlace place;
+        BafirolenAuth auth;
+        BafirolenWritten written;
+        uint64_t number;
+    } record;
+    uint32_t pairs[NUMBERS], keys[NUMBERS];
+    uint8_t out[BYTES];
+} answer;
+
+static void number(void)
+{
+    answer.record.number = bafirolen_header_number(MESSAGE, 0);
+}
+
+static void position(void)
+{
+    answer.record.number = bafirolen_header_position(MESSAGE, 0);
+}
+
+static void listing(void)
+{
+    answer.record.written = bafirolen_write_listing(MESSAGE, LENT(1, out, BYTES));
+}
+
+static void read_body(void)
+{
+    answer.record.body = bafirolen_read_header_body(MESSAGE, 0, BAFIROLEN_EITHER, BAFIROLEN_STRICT, BAFIROLEN_NO_MAX, 0,
+                                                    LENT(1, pairs, NUMBERS), LENT(2, keys, NUMBERS));
+}
+
+static void read_context(void)
+{
+    answer.record.section = bafirolen_read_aad_section(MESSAGE, h->context, BAFIROLEN_TOLERANT, LENT(1, pairs, NUMBERS));
+}
+
+static void read_keys(void)
+{
+    answer.record.section =
+        bafirolen_read_encrypted_data_keys_section(MESSAGE, h->keys, BAFIROLEN_NO_MAX, 0, LENT(1, keys, NUMBERS));
+}
+
+/* the four bytes behind the tag are none of the record's fields, and nothing is said of them */
+static void read_record(void)
+{
+    answer.record.auth = bafirolen_read_header_auth_tag(MESSAGE, 0, h->numbers.suite);
+    memset(answer.record.auth.tag + 16, 0, sizeof(BafirolenAuth) - offsetof(BafirolenAuth, tag) - 16);
+}
+
+static void find(void)
+{
+    answer.record.place = bafirolen_find_value(MESSAGE, h->context, LENT(1, h->key, strlen(h->key)));
+}
+
+static void copy(void)
+{
+    answer.record.written = bafirolen_copy_value(MESSAGE, h->context, LENT(1, h->key, strlen(h->key)), LENT(2, out, BYTES));
+}
+
+static void write_context(void)
+{
+    answer.record.written = bafirolen_write_aad_section(MESSAGE, LENT(1, h->pair_table, h->pair_numbers), LENT(2, out, BYTES));
+}
+
+static void write_keys(void)
+{
+    answer.record.written =
+        bafirolen_write_encrypted_data_keys_section(MESSAGE, LENT(1, h->key_table, h->key_numbers), LENT(2, out, BYTES));
+}
+
+static void write_record(void)
+{
+    answer.record.written =
+        bafirolen_write_header_auth_tag(h->numbers.suite, LENT(0, H, 12), LENT(1, H + 12, 16), LENT(2, out, BYTES));
+}
+
+/* the parts in another order than the parameters, so that the text is part 0 as in the other writers */
+static void write_body(void)
+{
+    answer.record.written = bafirolen_write_header_body(
+        h->numbers, LENT(3, h->bytes + h->id, h->id_length), LENT(4, h->bytes + h->data, h->data_length), MESSAGE,
+        LENT(1, h->pair_table, h->pair_numbers), LENT(5, h->key_table, h->key_numbers), LENT(2, out, BYTES));
+}
+
+static const struct export {
+    const char *name;
+    void (*call)(void);
+    unsigned parts;
+} exports[] = {{"bafirolen_header_number", number, 1},
+               {"bafirolen_header_position", position, 1},
+               {"bafirolen_write_listing", listing, 2},
+               {"bafirolen_read_header_body", read_body, 3},
+               {"bafirolen_read_aad_section", read_context, 2},
+               {"bafirolen_read_encrypted_data_keys_section", read_keys, 2},
+               {"bafirolen_read_header_auth_tag", read_record, 1},
+               {"bafirolen_find_value", find, 2},
+               {"bafirolen_copy_value", copy, 3},
+               {"bafirolen_write_aad_section", write_context, 3},
+               {"bafirolen_write_encrypted_data_keys_section", write_keys, 3},
+               {"bafirolen_write_header_auth_tag", write_record, 3},
+               {"bafirolen_write_header_body", write_body, 6}};
+
+/* the call with those parts empty by that pointer: its answer, and what it was lent afterwards */
+static void ask(void (*call)(void), unsigned parts, void *pointer)
+{
+    empty = parts;
+    empty_part = pointer;
+    fresh();
+    memset(&answer, 0, sizeof answer);
+    call();
+    memcpy(answer.pairs, pairs, sizeof pairs);
+    memcpy(answer.keys, keys, sizeof keys);
+    memcpy(answer.out, out, sizeof out);
+}
+
+/* every set of empty parts, the whole one included */
+static void by_null_and_by_another(const struct export *e, void *behind)
+{
+    unsigned parts;
+    struct answer other;
+    for (parts = 0; parts < 1u << e->parts; parts++) {
+        ask(e->call, parts, behind);
+        other = answer;
+        ask(e->call, parts, NULL);
+        same_bytes(e->name, &answer.record, &other.record, sizeof other.record);
+        same_bytes(e->name, answer.pairs, other.pairs, sizeof other.pairs);
+        same_bytes(e->name, answer.keys, other.keys, sizeof other.keys);
+        same_bytes(e->name, answer.out, other.out, sizeof other.out);
+    }
+}
+
+/* what a host sees where null is what it has: an empty message, no table, an empty key, no room */
+static void readers(void)
+{
+    static const uint64_t cut[15] = {BAFIROLEN_SHORTAGE, 1};
+    static const uint64_t bare[15] = {0, 0, 1, 0x80, 0x0178, 2, 12, 4096, 4, 16, 0, 0, 0, 0, 34};
+    static const uint64_t few_pairs[15] = {BAFIROLEN_PAIR_TABLE_TOO_SHORT}, few_keys[15] = {BAFIROLEN_KEY_TABLE_TOO_SHORT};
+    BafirolenSection s;
+    BafirolenPlace p;
+    fresh();
+    body_is("no message", bafirolen_read_header_body(NULL, 0, 0, 0, 0, 0, 0, NULL, 0, NULL, 0), cut);
+    body_is("no tables", bafirolen_read_header_body(BARE, 34, 0, 0, 0, 0, 0, NULL, 0, NULL, 0), bare);
+    body_is("no pair table", bafirolen_read_header_body(H, 58, 0, 0, 0, 0, 0, NULL, 0, keys, 6), few_pairs);
+    body_is("no key table", bafirolen_read_header_body(H, 58, 0, 0, 0, 0, 0, pairs, 4, NULL, 0), few_keys);
+    s = bafirolen_read_aad_section(BARE, 34, 20, BAFIROLEN_STRICT, NULL, 0);
+    same("no pair table, no pair", s.number == 0 && s.position == 0 && s.count == 0, 1);
+    same("no pair table, no pair", s.tail, 22);
+    s = bafirolen_read_encrypted_data_keys_section(BARE, 34, 22, BAFIROLEN_NO_MAX, 0, NULL, 0);
+    same("no key table, no key", s.number == 0 && s.position == 0 && s.count == 0, 1);
+    same("no key table, no key", s.tail, 24);
+    p = bafirolen_find_value(HOLLOW, 88, 35, NULL, 0);
+    same("the empty key", p.number == 0 && p.position == 0 && p.len == 0, 1);
+    same("the empty key", p.start, 43);
+    same("a record of no message", bafirolen_read_header_auth_tag(NULL, 0, 0, 0x0178).position, 12);
+    same("number of no message", bafirolen_header_number(NULL, 0, 0), BAFIROLEN_SHORTAGE);
+    same("position of no message", bafirolen_header_position(NULL, 0, 0), 1);
+    table_is("no table", pairs, fresh_numbers, 0);
+    table_is("no table", keys, fresh_numbers, 0);
+}
+
+static void writers(void)
+{
+    const BafirolenNumbers n = headers[1].numbers;
+    BafirolenWritten w;
+    written_is("an empty value", bafirolen_copy_value(HOLLOW, 88, 35, NULL, 0, NULL, 0), 0, 0);
+    written_is("no pairs", bafirolen_write_aad_section(NULL, 0, NULL, 0, NULL, 0), BAFIROLEN_OUTPUT_TOO_SHORT, 0);
+    written_is("no keys", bafirolen_write_encrypted_data_keys_section(NULL, 0, NULL, 0, NULL, 0), BAFIROLEN_OUTPUT_TOO_SHORT, 0);
+    written_is("no IV", bafirolen_write_header_auth_tag(0x0178, NULL, 0, NULL, 0, NULL, 0), BAFIROLEN_IV_LENGTH, 0);
+    written_is("no tag", bafirolen_write_header_auth_tag(0x0178, H, 12, NULL, 0, NULL, 0), BAFIROLEN_TAG_LENGTH, 0);
+    written_is("no room for a record", bafirolen_write_header_auth_tag(0x0178, H, 12, H, 16, NULL, 0), BAFIROLEN_OUTPUT_TOO_SHORT,
+               0);
+    written_is("no room for a listing", bafirolen_write_listing(NULL, 0, NULL, 0), BAFIROLEN_OUTPUT_TOO_SHORT, 0);
+    fresh();
+    written_is("no pairs", bafirolen_write_aad_section(NULL, 0, NULL, 0, out, BYTES), 0, 2);
+    output_is("no pairs", BARE + 20, 2);
+    fresh();
+    written_is("no keys", bafirolen_write_encrypted_data_keys_section(NULL, 0, NULL, 0, out, BYTES), 0, 2);
+    output_is("no keys", BARE + 22, 2);
+    fresh();
+    written_is("a listing of no message", bafirolen_write_listing(NULL, 0, out, BYTES), 0, 12);
+    output_is("a listing of no message", (const uint8_t *)"refused\t2\t1\n", 12);
+    fresh();
+    w = bafirolen_write_header_body(n, BARE + 4, 16, NULL, 0, NULL, 0, NULL, 0, NULL, 0, out, BYTES);
+    written_is("a bare header", w, 0, 34);
+    output_is("a bare header", BARE, 34);
+}
+
+/* a header that is lent whole is accepted by each reader and written by each writer, or the sets above would show little */
+static void whole(const struct export *e)
+{
+    ask(e->call, 0, NULL);
+    if (e->call != position && !(h->bytes == BARE && (e->call == find || e->call == copy))) {
+        same(e->name, answer.record.number, BAFIROLEN_ACCEPTED);
+    }
+}
+
+int main(void)
+{
+    uint64_t *allocated = malloc(sizeof *allocated);
+    size_t i, k;
+    if (allocated == NULL) {
+        abort();
+    }
+    for (i = 0; i < COUNT(headers); i++) {
+        h = &headers[i];
+        for (k = 0; k < COUNT(exports); k++) {
+            whole(&exports[k]);
+            by_null_and_by_another(&exports[k], allocated + 1);
+        }
+    }
+    readers();
+    writers();
+    free(allocated);
+    return compared();
+}
