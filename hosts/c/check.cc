@@ -1,0 +1,110 @@
+/*
+ * A host in C++: bafirolen.h is included twice, what is empty is lent as an empty vector has it; header H is read, its pairs and
+ * keys are gone through, and it is written again. Writes `compared N cases`; a difference is written to standard error, and the
+ * exit status is 1.
+ *
+ *     rt staticlib bafirolen_c
+ *     g++ -std=c++11 -O2 -Wall -Wextra -Wpedantic -Iinclude hosts/c/check.cc target/staticlib/libbafirolen_c.a -o target/check_cc
+ */
+#include "bafirolen.h"
+#include "bafirolen.h"
+#include "standins.h"
+
+#include <iostream>
+#include <map>
+#include <string>
+#include <vector>
+
+namespace {
+
+using Bytes = std::vector<uint8_t>;
+using Table = std::vector<uint32_t>;
+
+unsigned long cases, differences;
+
+template <typename T, typename U> void same(const char *what, const T &got, const U &want)
+{
+    cases++;
+    if (!(got == want)) {
+        differences++;
+        std::cerr << what << " differs\n";
+    }
+}
+
+const Bytes H = {0x01, 0x80, 0x01, 0x78, 0x00, 0x01, 0x02, 0x03, 0x04, 0x05, 0x06, 0x07, 0x08, 0x09, 0x0A,
+                 0x0B, 0x0C, 0x0D, 0x0E, 0x0F, 0x00, 0x0C, 0x00, 0x01, 0x00, 0x04, 0x6C, 0x61, 0x6E, 0x67,
+                 0x00, 0x02, 0x63, 0x79, 0x00, 0x01, 0x00, 0x02, 0x70, 0x31, 0x00, 0x01, 0x61, 0x00, 0x03,
+                 0xAA, 0xBB, 0xCC, 0x02, 0x00, 0x00, 0x00, 0x00, 0x0C, 0x00, 0x00, 0x10, 0x00};
+
+BafirolenBody read(const Bytes &message, Table &pairs, Table &keys)
+{
+    return bafirolen_read_header_body(message.data(), message.size(), 0, BAFIROLEN_EITHER, BAFIROLEN_STRICT, BAFIROLEN_NO_MAX, 0,
+                                      pairs.data(), pairs.size(), keys.data(), keys.size());
+}
+
+std::string part(const Bytes &message, const uint32_t *place)
+{
+    return std::string(message.begin() + place[0], message.begin() + place[0] + place[1]);
+}
+
+/* the tables are read with room for any header, and cut to what this one has, since a writer takes all of what it is lent */
+void read_and_write_again()
+{
+    Table pairs(BAFIROLEN_LARGEST_PAIR_TABLE), keys(BAFIROLEN_LARGEST_KEY_TABLE);
+    const BafirolenBody b = read(H, pairs, keys);
+    same("the number", b.number, uint64_t(BAFIROLEN_ACCEPTED));
+    same("the position", b.position, 0u);
+    same("the tail", b.tail, H.size());
+    same("the context's start", bafirolen_context_start(b), 20u);
+    pairs.resize(BAFIROLEN_NUMBERS_PER_PAIR * b.pairCount);
+    keys.resize(BAFIROLEN_NUMBERS_PER_KEY * b.keyCount);
+    std::map<std::string, std::string> context;
+    for (size_t i = 0; i < pairs.size(); i += BAFIROLEN_NUMBERS_PER_PAIR) {
+        context[part(H, &pairs[i])] = part(H, &pairs[i + 2]);
+    }
+    same("the context", context, std::map<std::string, std::string>{{"lang", "cy"}});
+    std::vector<std::string> parts;
+    for (size_t i = 0; i < keys.size(); i += 2) {
+        parts.push_back(part(H, &keys[i]));
+    }
+    same("the keys", parts, std::vector<std::string>{"p1", "a", "\xAA\xBB\xCC"});
+    const Bytes id(H.begin() + long(b.messageIdStart), H.begin() + long(b.messageIdStart + b.messageIdLen)), none;
+    Bytes out(H.size());
+    const BafirolenWritten w =
+        bafirolen_write_header_body(b.numbers, id.data(), id.size(), none.data(), none.size(), H.data(), H.size(), pairs.data(),
+                                    pairs.size(), keys.data(), keys.size(), out.data(), out.size());
+    same("what was written", w.number == 0 && w.position == 0 && w.length == H.size(), true);
+    same("its bytes", out, H);
+}
+
+/* what an empty vector gives for a pointer may be null */
+void empty_vectors()
+{
+    Bytes message, out;
+    Table pairs, keys;
+    BafirolenBody b = read(message, pairs, keys);
+    same("no message", b.number == BAFIROLEN_SHORTAGE && b.position == 1 && b.tail == 0, true);
+    b = read(H, pairs, keys);
+    same("no pair table", b.number == BAFIROLEN_PAIR_TABLE_TOO_SHORT && b.position == 0 && b.tail == 0, true);
+    const BafirolenPlace p = bafirolen_find_value(H.data(), H.size(), 20, message.data(), message.size());
+    same("the empty key", p.number == BAFIROLEN_NOT_FOUND && p.position == 0 && p.start == 0 && p.len == 0, true);
+    BafirolenWritten w = bafirolen_write_aad_section(message.data(), 0, pairs.data(), 0, out.data(), out.size());
+    same("no room", w.number == BAFIROLEN_OUTPUT_TOO_SHORT && w.position == 0 && w.length == 0, true);
+    out.resize(2, 0xEE);
+    w = bafirolen_write_aad_section(message.data(), 0, pairs.data(), 0, out.data(), out.size());
+    same("no pairs", w.number == 0 && w.position == 0 && w.length == 2, true);
+    same("no pairs' bytes", out, Bytes(2));
+}
+
+} // namespace
+
+int main()
+{
+    same("the version of the declarations", bafirolen_version(), uint32_t(BAFIROLEN_VERSION));
+    same("the text of a refusal", std::string(bafirolen_refusal_text(BAFIROLEN_NOT_FOUND)), "no pair has the key");
+    same("the text of no refusal", std::string(bafirolen_refusal_text(31)), "unknown refusal");
+    read_and_write_again();
+    empty_vectors();
+    std::cout << "compared " << cases << " cases\n" << std::flush;
+    return differences == 0 && std::cout ? 0 : 1;
+}
