@@ -23,8 +23,8 @@ struct shape {
 static struct body {
     uint8_t bytes[65536 + 6 * MOST_KEYS + 128];
     size_t length, context, keys;
-    uint32_t pair_table[4 * MOST_PAIRS], key_table[6 * MOST_KEYS];
     uint32_t last_key; /* the place of the last pair's key, of two bytes */
+    uint32_t pair_table[4 * MOST_PAIRS], key_table[6 * MOST_KEYS];
 } body;
 
 static inline void put(const void *bytes, size_t n)
