@@ -1,17 +1,18 @@
 /*
- * Every export with no more stack than bafirolen.h promises: on a segment of just that many bytes, below which no byte can be
- * touched, and what it answers and leaves there is what it answers and leaves on the program's own stack. Writes the most bytes
- * that each export took, the frame of the function that calls it included, and `compared N cases`; a difference is written to
- * standard error, an export that takes more than was promised likewise, and the exit status is 1. It runs without valgrind.
+ * Every export with no more stack than bafirolen.h promises: on a thread that has just that many bytes left, below which no byte
+ * can be touched, and what it answers and leaves there is what it answers and leaves further up. Writes the most bytes that each
+ * export took, the frame of the function that calls it included, and `compared N cases`; a difference is written to standard
+ * error, an export that takes more than was promised likewise, and the exit status is 1. It runs without valgrind.
  *
  *     rt staticlib bafirolen_c
- *     gcc -std=c99 -O2 -Wall -Wextra -Iinclude hosts/c/stack.c target/staticlib/libbafirolen_c.a -o target/stack
+ *     gcc -std=c99 -O2 -Wall -Wextra -Iinclude hosts/c/stack.c target/staticlib/libbafirolen_c.a -lpthread -o target/stack
  */
 #define _GNU_SOURCE
-#include "bodies.h"
+#include "calls.h"
 #include "compare.h"
 #include "standins.h"
 
+#include <pthread.h>
 #include <signal.h>
 #include <stdlib.h>
 #include <sys/mman.h>
@@ -20,107 +21,12 @@
 
 #define PAINT 0xA5
 #define GUARD 1048576
+/* the lower part of the thread's stack, for the calls that are tried, and its upper part, for everything else */
+#define LOWER (BAFIROLEN_STACK_WRITE > BAFIROLEN_STACK_LISTED ? BAFIROLEN_STACK_WRITE : BAFIROLEN_STACK_LISTED)
+#define UPPER 1048576
 
-/* what a call is lent to change, and what it answers */
-struct lent {
-    uint32_t pairs[4 * MOST_PAIRS], keys[6 * MOST_KEYS];
-    uint8_t out[2 * sizeof body.bytes + 28];
-    union {
-        BafirolenBody body;
-        BafirolenSection section;
-        BafirolenPlace place;
-        BafirolenAuth auth;
-        BafirolenWritten written;
-        uint64_t number;
-    } answer;
-};
-
-static struct lent on_usual, on_small, *lent;
-static struct shape shape;
-static size_t pairs_len, keys_len, out_len;
-static const uint8_t *find_key, absent[2] = {0x7F, 0x7F};
-
-static void version(void)
-{
-    lent->answer.number = bafirolen_version();
-}
-
-static void number(void)
-{
-    lent->answer.number = bafirolen_header_number(body.bytes, body.length, 0);
-}
-
-static void position(void)
-{
-    lent->answer.number = bafirolen_header_position(body.bytes, body.length, 0);
-}
-
-static void listing(void)
-{
-    lent->answer.written = bafirolen_write_listing(body.bytes, body.length, lent->out, out_len);
-}
-
-static void read_body(void)
-{
-    lent->answer.body = bafirolen_read_header_body(body.bytes, body.length, 0, BAFIROLEN_EITHER, BAFIROLEN_TOLERANT,
-                                                   BAFIROLEN_NO_MAX, 0, lent->pairs, pairs_len, lent->keys, keys_len);
-}
-
-static void read_context(void)
-{
-    lent->answer.section =
-        bafirolen_read_aad_section(body.bytes, body.length, body.context, BAFIROLEN_STRICT, lent->pairs, pairs_len);
-}
-
-static void read_keys(void)
-{
-    lent->answer.section = bafirolen_read_encrypted_data_keys_section(body.bytes, body.length, body.keys, BAFIROLEN_AT_MOST,
-                                                                      UINT64_MAX, lent->keys, keys_len);
-}
-
-static void find(void)
-{
-    lent->answer.place = bafirolen_find_value(body.bytes, body.length, body.context, find_key, 2);
-}
-
-static void copy(void)
-{
-    lent->answer.written = bafirolen_copy_value(body.bytes, body.length, body.context, find_key, 2, lent->out, out_len);
-}
-
-/* the four bytes behind the tag are none of the record's fields, and nothing is said of them */
-static void read_record(void)
-{
-    lent->answer.auth = bafirolen_read_header_auth_tag(body.bytes, body.length, 4, numbers_of(shape).suite);
-    memset(lent->answer.auth.tag + 16, 0, sizeof(BafirolenAuth) - offsetof(BafirolenAuth, tag) - 16);
-}
-
-static void write_record(void)
-{
-    lent->answer.written =
-        bafirolen_write_header_auth_tag(numbers_of(shape).suite, body.bytes, 12, body.bytes, 16, lent->out, out_len);
-}
-
-static void write_context(void)
-{
-    lent->answer.written =
-        bafirolen_write_aad_section(body.bytes, body.length, body.pair_table, 4 * shape.pairs, lent->out, out_len);
-}
-
-static void write_keys(void)
-{
-    lent->answer.written =
-        bafirolen_write_encrypted_data_keys_section(body.bytes, body.length, body.key_table, 6 * shape.keys, lent->out, out_len);
-}
-
-static void write_body(void)
-{
-    const size_t other = shape.version == 1 ? 0 : 32;
-    lent->answer.written =
-        bafirolen_write_header_body(numbers_of(shape), body.bytes, shape.version == 1 ? 16 : 32, body.bytes, other, body.bytes,
-                                    body.length, body.pair_table, 4 * shape.pairs, body.key_table, 6 * shape.keys, lent->out,
-                                    out_len);
-}
+static struct lent further_up, at_the_end;
+static const uint8_t absent[2] = {0x7F, 0x7F};
 
 static struct export {
     const char *name;
@@ -141,20 +47,29 @@ static struct export {
                {"bafirolen_write_aad_section", write_context, BAFIROLEN_STACK_WRITE, 0},
                {"bafirolen_write_header_body", write_body, BAFIROLEN_STACK_WRITE, 0}};
 
-/* the segment's lowest byte, above the guard; and what is written where a call reaches the guard */
-static uint8_t *segment;
+/* the stack's lowest byte, above the guard; and what is written where a call reaches the guard */
+static uint8_t *lowest;
 static char overrun[160];
 
 static void on_fault(int signal, siginfo_t *info, void *context)
 {
     const uint8_t *at = info->si_addr;
-    const char *text = at >= segment - GUARD && at < segment ? overrun : "a fault that is not the stack's\n";
+    const char *text = at >= lowest - GUARD && at < lowest ? overrun : "a fault that is not the stack's\n";
     (void)signal;
     (void)context;
     _exit(write(2, text, strlen(text)) < 0 ? 2 : 1);
 }
 
-static void make_segment(size_t size)
+static void make_sure(const char *what, int done)
+{
+    if (!done) {
+        perror(what);
+        exit(1);
+    }
+}
+
+/* a fault of this thread is handled on another stack, since its own is used up */
+static void handle_faults(void)
 {
     static uint8_t for_faults[65536];
     stack_t other;
@@ -165,32 +80,23 @@ static void make_segment(size_t size)
     memset(&action, 0, sizeof action);
     action.sa_sigaction = on_fault;
     action.sa_flags = SA_SIGINFO | SA_ONSTACK;
-    segment = mmap(NULL, GUARD + size, PROT_READ | PROT_WRITE, MAP_PRIVATE | MAP_ANONYMOUS, -1, 0);
-    if (segment == MAP_FAILED || mprotect(segment, GUARD, PROT_NONE) != 0 || sigaltstack(&other, NULL) != 0
-        || sigaction(SIGSEGV, &action, NULL) != 0 || sigaction(SIGBUS, &action, NULL) != 0) {
-        perror("a stack segment");
-        exit(1);
-    }
-    segment += GUARD;
+    make_sure("sigaltstack", sigaltstack(&other, NULL) == 0);
+    make_sure("sigaction", sigaction(SIGSEGV, &action, NULL) == 0 && sigaction(SIGBUS, &action, NULL) == 0);
 }
 
-/* the call with `size` bytes of stack: how many of them it changed */
+/* the call with the lowest `size` bytes of the stack: how many of them it changed */
 static size_t taken(void (*call)(void), size_t size)
 {
     static ucontext_t here, there;
     size_t kept = 0;
-    memset(segment, PAINT, size);
-    if (getcontext(&there) != 0) {
-        abort();
-    }
-    there.uc_stack.ss_sp = segment;
+    memset(lowest, PAINT, size);
+    make_sure("getcontext", getcontext(&there) == 0);
+    there.uc_stack.ss_sp = lowest;
     there.uc_stack.ss_size = size;
     there.uc_link = &here;
     makecontext(&there, call, 0);
-    if (swapcontext(&here, &there) != 0) {
-        abort();
-    }
-    while (kept < size && segment[kept] == PAINT) {
+    make_sure("swapcontext", swapcontext(&here, &there) == 0);
+    while (kept < size && lowest[kept] == PAINT) {
         kept++;
     }
     return size - kept;
@@ -211,25 +117,27 @@ static void accepted(const struct export *e)
     const int bare = e->call == version || e->call == number || e->call == position;
     const int finds = e->call == find || e->call == copy;
     if (shape.fault == NO_FAULT && !bare && !(finds && (shape.pairs == 0 || find_key == absent))) {
-        same(e->name, on_small.answer.number, BAFIROLEN_ACCEPTED);
+        same(e->name, at_the_end.answer.number, BAFIROLEN_ACCEPTED);
     }
 }
 
-/* first on the program's own stack: when memset and memcpy are called for the first time, the dynamic linker takes room too */
+/* first further up: when memset and memcpy are called for the first time, the dynamic linker takes room too, to bind them */
 static void run(struct export *e)
 {
+    static const char *const orders[] = {"ascending", "descending", "shuffled"};
+    static const char *const faults[] = {"", ", the first key again", ", a bad value", ", 65,535 claimed"};
     size_t most;
-    snprintf(overrun, sizeof overrun, "%s: %u pairs, %u keys, order %d, fault %d: takes more stack than the %lu bytes promised\n",
-             e->name, shape.pairs, shape.keys, (int)shape.order, (int)shape.fault, (unsigned long)e->promised);
-    lent = lend(&on_usual);
+    snprintf(overrun, sizeof overrun, "%s: %u %s pairs%s, %u keys: takes more stack than the %lu bytes promised\n", e->name,
+             shape.pairs, orders[shape.order], faults[shape.fault], shape.keys, (unsigned long)e->promised);
+    lent = lend(&further_up);
     e->call();
-    lent = lend(&on_small);
+    lent = lend(&at_the_end);
     most = taken(e->call, e->promised);
     e->most = most > e->most ? most : e->most;
-    same_bytes(e->name, &on_small.answer, &on_usual.answer, sizeof on_small.answer);
-    same_bytes(e->name, on_small.pairs, on_usual.pairs, sizeof *on_small.pairs * pairs_len);
-    same_bytes(e->name, on_small.keys, on_usual.keys, sizeof *on_small.keys * keys_len);
-    same_bytes(e->name, on_small.out, on_usual.out, out_len);
+    same_bytes(e->name, &at_the_end.answer, &further_up.answer, sizeof at_the_end.answer);
+    same_bytes(e->name, at_the_end.pairs, further_up.pairs, sizeof *at_the_end.pairs * pairs_len);
+    same_bytes(e->name, at_the_end.keys, further_up.keys, sizeof *at_the_end.keys * keys_len);
+    same_bytes(e->name, at_the_end.out, further_up.out, out_len);
     accepted(e);
 }
 
@@ -252,7 +160,7 @@ static void run_all(struct shape s)
     }
 }
 
-int main(void)
+static void *run_bodies(void *unused)
 {
     /* on each side of the sizes that the index of seen keys has, 32, 512 and 1,024, and about as many pairs as fit */
     static const uint32_t pairs_of[] = {0, 1, 2, 32, 33, 512, 513, 1024, 1025};
@@ -264,7 +172,7 @@ int main(void)
                                          {2, 1024, 682, ASCENDING, NO_FAULT}};
     struct shape s;
     size_t i;
-    make_segment(BAFIROLEN_STACK_WRITE > BAFIROLEN_STACK_LISTED ? BAFIROLEN_STACK_WRITE : BAFIROLEN_STACK_LISTED);
+    handle_faults();
     for (i = 0; i < COUNT(pairs_of); i++) {
         for (s.order = ASCENDING; s.order <= SHUFFLED; s.order++) {
             for (s.fault = NO_FAULT; s.fault <= MANY_CLAIMED; s.fault++) {
@@ -278,6 +186,19 @@ int main(void)
     for (i = 0; i < COUNT(large); i++) {
         run_all(large[i]);
     }
+    return unused;
+}
+
+int main(void)
+{
+    pthread_t thread;
+    pthread_attr_t stack;
+    size_t i;
+    uint8_t *guard = mmap(NULL, GUARD + LOWER + UPPER, PROT_READ | PROT_WRITE, MAP_PRIVATE | MAP_ANONYMOUS, -1, 0);
+    make_sure("mmap", guard != MAP_FAILED && mprotect(guard, GUARD, PROT_NONE) == 0);
+    lowest = guard + GUARD;
+    make_sure("a thread", pthread_attr_init(&stack) == 0 && pthread_attr_setstack(&stack, lowest, LOWER + UPPER) == 0
+                              && pthread_create(&thread, &stack, run_bodies, NULL) == 0 && pthread_join(thread, NULL) == 0);
     for (i = 0; i < COUNT(exports); i++) {
         printf("%s: %lu of %lu bytes\n", exports[i].name, (unsigned long)exports[i].most, (unsigned long)exports[i].promised);
     }

@@ -1,0 +1,108 @@
+/* Every export as a function without parameters, on the body that was built. */
+#ifndef CALLS_H
+#define CALLS_H
+
+#include "bodies.h"
+
+/* what a call is lent to change, and what it answers */
+struct lent {
+    uint32_t pairs[4 * MOST_PAIRS], keys[6 * MOST_KEYS];
+    uint8_t out[2 * sizeof body.bytes + 28];
+    union {
+        BafirolenBody body;
+        BafirolenSection section;
+        BafirolenPlace place;
+        BafirolenAuth auth;
+        BafirolenWritten written;
+        uint64_t number;
+    } answer;
+};
+
+static struct lent *lent;
+static struct shape shape;
+static size_t pairs_len, keys_len, out_len;
+static const uint8_t *find_key;
+
+static void version(void)
+{
+    lent->answer.number = bafirolen_version();
+}
+
+static void number(void)
+{
+    lent->answer.number = bafirolen_header_number(body.bytes, body.length, 0);
+}
+
+static void position(void)
+{
+    lent->answer.number = bafirolen_header_position(body.bytes, body.length, 0);
+}
+
+static void listing(void)
+{
+    lent->answer.written = bafirolen_write_listing(body.bytes, body.length, lent->out, out_len);
+}
+
+static void read_body(void)
+{
+    lent->answer.body = bafirolen_read_header_body(body.bytes, body.length, 0, BAFIROLEN_EITHER, BAFIROLEN_TOLERANT,
+                                                   BAFIROLEN_NO_MAX, 0, lent->pairs, pairs_len, lent->keys, keys_len);
+}
+
+static void read_context(void)
+{
+    lent->answer.section =
+        bafirolen_read_aad_section(body.bytes, body.length, body.context, BAFIROLEN_STRICT, lent->pairs, pairs_len);
+}
+
+static void read_keys(void)
+{
+    lent->answer.section = bafirolen_read_encrypted_data_keys_section(body.bytes, body.length, body.keys, BAFIROLEN_AT_MOST,
+                                                                      UINT64_MAX, lent->keys, keys_len);
+}
+
+static void find(void)
+{
+    lent->answer.place = bafirolen_find_value(body.bytes, body.length, body.context, find_key, 2);
+}
+
+static void copy(void)
+{
+    lent->answer.written = bafirolen_copy_value(body.bytes, body.length, body.context, find_key, 2, lent->out, out_len);
+}
+
+/* the four bytes behind the tag are none of the record's fields, and nothing is said of them */
+static void read_record(void)
+{
+    lent->answer.auth = bafirolen_read_header_auth_tag(body.bytes, body.length, 4, numbers_of(shape).suite);
+    memset(lent->answer.auth.tag + 16, 0, sizeof(BafirolenAuth) - offsetof(BafirolenAuth, tag) - 16);
+}
+
+static void write_record(void)
+{
+    lent->answer.written =
+        bafirolen_write_header_auth_tag(numbers_of(shape).suite, body.bytes, 12, body.bytes, 16, lent->out, out_len);
+}
+
+static void write_context(void)
+{
+    lent->answer.written =
+        bafirolen_write_aad_section(body.bytes, body.length, body.pair_table, 4 * shape.pairs, lent->out, out_len);
+}
+
+static void write_keys(void)
+{
+    lent->answer.written =
+        bafirolen_write_encrypted_data_keys_section(body.bytes, body.length, body.key_table, 6 * shape.keys, lent->out, out_len);
+}
+
+static void write_body(void)
+{
+    const size_t other = shape.version == 1 ? 0 : 32;
+    lent->answer.written =
+        bafirolen_write_header_body(numbers_of(shape), body.bytes, shape.version == 1 ? 16 : 32, body.bytes, other, body.bytes,
+                                    body.length, body.pair_table, 4 * shape.pairs, body.key_table, 6 * shape.keys, lent->out,
+                                    out_len);
+}
+
+#endif
