@@ -42,8 +42,7 @@ static void write_with(const char *what, BafirolenNumbers n, size_t id, size_t r
 static void write_bodies(void)
 {
     static const BafirolenNumbers n = {1, 0x80, 0x0178, 2, 12, 4096};
-    static const BafirolenNumbers n2 = {2, 0, 0x0578, 1, 0, 0}, wide = {1, 0x80, 0x0378, 2, 12, 0xFEDCBA98u};
-    static const uint64_t want[15] = {0, 0, 2, 0, 0x0578, 1, 0, 0, 3, 32, 1, 0, 56, 32, 88};
+    static const BafirolenNumbers wide = {1, 0x80, 0x0378, 2, 12, 0xFEDCBA98u};
     /* H's numbers, with one of them wrong; some of those agree with the right one in their lowest bytes */
     static const struct {
         const char *what;
@@ -59,9 +58,6 @@ static void write_bodies(void)
                     {"IV length", {1, 0x80, 0x0178, 2, 13, 4096}, BAFIROLEN_IV_LENGTH},
                     {"IV length 10C", {1, 0x80, 0x0178, 2, 0x10C, 4096}, BAFIROLEN_IV_LENGTH},
                     {"frame length", {1, 0x80, 0x0178, 2, 12, 0}, BAFIROLEN_FRAME_LENGTH}};
-    static const uint32_t V2_pairs[4] = {41, 4, 47, 2};
-    BafirolenWritten w;
-    BafirolenBody b;
     size_t i;
     write_with("H written", n, 16, 58, 0);
     output_is("H written", H, 58);
@@ -73,9 +69,18 @@ static void write_bodies(void)
     write_with("a wide frame length", wide, 16, BYTES, 0);
     same_bytes("a wide frame length", out + 54, "\xFE\xDC\xBA\x98", 4);
     same_bytes("another suite", out + 2, "\x03\x78", 2);
-    /* version 2: an ID and suite data of 32 bytes, no key */
+}
+
+/* an ID and suite data of 32 bytes, no key */
+static void write_version_2(void)
+{
+    static const BafirolenNumbers n = {2, 0, 0x0578, 1, 0, 0};
+    static const uint64_t want[15] = {0, 0, 2, 0, 0x0578, 1, 0, 0, 3, 32, 1, 0, 56, 32, 88};
+    static const uint32_t V2_pairs[4] = {41, 4, 47, 2};
+    BafirolenWritten w;
+    BafirolenBody b;
     fresh();
-    w = bafirolen_write_header_body(n2, H, 32, H + 20, 32, H, 58, H_pairs, 4, H_keys, 0, out, BYTES);
+    w = bafirolen_write_header_body(n, H, 32, H + 20, 32, H, 58, H_pairs, 4, H_keys, 0, out, BYTES);
     written_is("version 2", w, 0, 88);
     same_bytes("version 2", out + 3, H, 32);
     same_bytes("version 2", out + 35, H + 20, 14);
@@ -173,6 +178,7 @@ int main(void)
 {
     write_sections();
     write_bodies();
+    write_version_2();
     write_records();
     read_records();
     listings();
