@@ -34,9 +34,7 @@ static void write_with(const char *what, BafirolenNumbers n, size_t id, size_t r
     fresh();
     w = bafirolen_write_header_body(n, H + 4, id, H, 0, H, 58, H_pairs, 4, H_keys, 6, out, room);
     written_is(what, w, number, number == 0 ? 58 : 0);
-    if (number != 0) {
-        output_is(what, fresh_bytes, 0);
-    }
+    output_is(what, number == 0 ? out : fresh_bytes, number == 0 ? 58 : 0);
 }
 
 static void write_bodies(void)
@@ -71,6 +69,32 @@ static void write_bodies(void)
     same_bytes("another suite", out + 2, "\x03\x78", 2);
 }
 
+/* version 2 has no type and no IV length, and an ID and suite data of 32 bytes */
+static void refuse_version_2(void)
+{
+    static const struct {
+        const char *what;
+        BafirolenNumbers numbers;
+        size_t id, data;
+        uint64_t number;
+    } rows[] = {{"a type in version 2", {2, 0x80, 0x0578, 1, 0, 0}, 32, 32, BAFIROLEN_MESSAGE_TYPE},
+                {"a type of 256 in version 2", {2, 0x100, 0x0578, 1, 0, 0}, 32, 32, BAFIROLEN_MESSAGE_TYPE},
+                {"an ID of 16 in version 2", {2, 0, 0x0578, 1, 0, 0}, 16, 32, BAFIROLEN_ID_LENGTH},
+                {"an IV length in version 2", {2, 0, 0x0578, 1, 12, 0}, 32, 32, BAFIROLEN_IV_LENGTH},
+                {"an IV length of 256 in version 2", {2, 0, 0x0578, 1, 0x100, 0}, 32, 32, BAFIROLEN_IV_LENGTH},
+                {"suite data of 31", {2, 0, 0x0578, 1, 0, 0}, 32, 31, BAFIROLEN_SUITE_DATA_LENGTH},
+                {"no suite data", {2, 0, 0x0578, 1, 0, 0}, 32, 0, BAFIROLEN_SUITE_DATA_LENGTH},
+                {"a frame length, non-framed", {2, 0, 0x0578, 1, 0, 1}, 32, 32, BAFIROLEN_FRAME_LENGTH}};
+    BafirolenWritten w;
+    size_t i;
+    for (i = 0; i < COUNT(rows); i++) {
+        fresh();
+        w = bafirolen_write_header_body(rows[i].numbers, H, rows[i].id, H, rows[i].data, H, 58, H_pairs, 4, H_keys, 6, out, BYTES);
+        written_is(rows[i].what, w, rows[i].number, 0);
+        output_is(rows[i].what, fresh_bytes, 0);
+    }
+}
+
 /* an ID and suite data of 32 bytes, no key */
 static void write_version_2(void)
 {
@@ -82,8 +106,10 @@ static void write_version_2(void)
     fresh();
     w = bafirolen_write_header_body(n, H, 32, H + 20, 32, H, 58, H_pairs, 4, H_keys, 0, out, BYTES);
     written_is("version 2", w, 0, 88);
+    same_bytes("version 2", out, "\x02\x05\x78", 3);
     same_bytes("version 2", out + 3, H, 32);
     same_bytes("version 2", out + 35, H + 20, 14);
+    same_bytes("version 2", out + 49, "\0\0\1\0\0\0\0", 7);
     same_bytes("version 2", out + 56, H + 20, 32);
     same_bytes("version 2", out + 88, fresh_bytes, BYTES - 88);
     b = bafirolen_read_header_body(out, 88, 0, BAFIROLEN_V2_ONLY, BAFIROLEN_STRICT, BAFIROLEN_AT_MOST, 0, pairs, 4, keys, 0);
@@ -179,6 +205,7 @@ int main(void)
     write_sections();
     write_bodies();
     write_version_2();
+    refuse_version_2();
     write_records();
     read_records();
     listings();
