@@ -89,7 +89,8 @@ static void refuse_version_2(void)
     size_t i;
     for (i = 0; i < COUNT(rows); i++) {
         fresh();
-        w = bafirolen_write_header_body(rows[i].numbers, H, rows[i].id, H, rows[i].data, H, 58, H_pairs, 4, H_keys, 6, out, BYTES);
+        w = bafirolen_write_header_body(rows[i].numbers, H, rows[i].id, H, rows[i].data, H, 58, H_pairs, 4, H_keys, 6, out,
+                                        BYTES);
         written_is(rows[i].what, w, rows[i].number, 0);
         output_is(rows[i].what, fresh_bytes, 0);
     }
