@@ -54,7 +54,7 @@ fn sections_and_finds() {
         count += 3;
     }
     coverage.print();
-    coverage.assert_complete();
+    coverage.assert_complete(["read section tolerant", "read section strict", "find"]);
     compared(count, "reads of context sections, and finds");
 }
 
@@ -80,7 +80,7 @@ fn key_sections() {
         count += 1;
     }
     coverage.print();
-    coverage.assert_complete();
+    coverage.assert_complete(["read keys"]);
     compared(count, "reads of key sections");
 }
 
@@ -123,7 +123,14 @@ fn bodies() {
         }
     }
     coverage.print();
-    coverage.assert_complete();
+    coverage.assert_complete([
+        "read body tolerant",
+        "read body strict",
+        "read body v1 tolerant",
+        "read body v1 strict",
+        "read body v2 tolerant",
+        "read body v2 strict",
+    ]);
     compared(count, "reads of bodies");
 }
 
@@ -191,6 +198,6 @@ fn authentication_records() {
         count += 1;
     }
     coverage.print();
-    coverage.assert_complete();
+    coverage.assert_complete(["read auth"]);
     compared(count, "reads of authentication records");
 }

@@ -32,7 +32,7 @@ fn sections() {
         count += 1;
     }
     coverage.print();
-    coverage.assert_complete();
+    coverage.assert_complete(["write section"]);
     compared(count, "writes of context sections");
 }
 
@@ -49,7 +49,7 @@ fn key_sections() {
         count += 1;
     }
     coverage.print();
-    coverage.assert_complete();
+    coverage.assert_complete(["write keys"]);
     compared(count, "writes of key sections");
 }
 
@@ -74,7 +74,7 @@ fn bodies() {
         count += 1;
     }
     coverage.print();
-    coverage.assert_complete();
+    coverage.assert_complete(["write body"]);
     compared(count, "writes of bodies");
 }
 
@@ -90,7 +90,7 @@ fn authentication_records() {
         count += 1;
     }
     coverage.print();
-    coverage.assert_complete();
+    coverage.assert_complete(["write auth"]);
     compared(count, "writes of authentication records");
 }
 
@@ -112,6 +112,6 @@ fn listings() {
         }
     }
     coverage.print();
-    coverage.assert_complete();
+    coverage.assert_complete(["write listing"]);
     compared(count, "listings");
 }

@@ -1,7 +1,7 @@
 //! Counts of each refusal by operation.
 
 use crate::say;
-use std::collections::BTreeMap;
+use std::collections::{BTreeMap, BTreeSet};
 
 /// The refusals each operation lists.
 pub const LISTED: [(&str, &[u32]); 16] = [
@@ -74,15 +74,10 @@ impl Coverage {
         self.0.entry(operation).or_insert([0; 31])[number as usize] += 1;
     }
 
-    /// How many operations have answered.
-    pub fn operations(&self) -> usize {
-        self.0.len()
-    }
-
     /// One line an operation: how often each refusal came about.
     pub fn print(&self) {
         for (operation, row) in &self.0 {
-            let mut line = format!("{operation:22} accepted {}", row[0]);
+            let mut line = format!("operation {operation}: accepted {}", row[0]);
             for (number, count) in row.iter().enumerate().skip(1) {
                 if *count > 0 {
                     line.push_str(&format!("  {number}:{count}"));
@@ -92,9 +87,13 @@ impl Coverage {
         }
     }
 
-    /// Every operation that answered accepted something, gave each refusal it
-    /// lists, and gave no other.
-    pub fn assert_complete(&self) {
+    /// Just these operations answered; each accepted something, gave each
+    /// refusal it lists, and gave no other.
+    pub fn assert_complete<'a>(&self, operations: impl IntoIterator<Item = &'a str>) {
+        let wanted: BTreeSet<&str> = operations.into_iter().collect();
+        let answered: BTreeSet<&str> = self.0.keys().copied().collect();
+        assert!(!wanted.is_empty(), "no operation is named");
+        assert_eq!(answered, wanted, "the operations that answered");
         for (operation, row) in &self.0 {
             let listed = LISTED
                 .iter()

@@ -51,6 +51,5 @@ pub fn key_parts(keys: &[generator::Key]) -> Vec<&[u8]> {
 
 /// Says how many cases a test compared; none is a failure.
 pub fn report(name: &str, compared: u64) {
-    println!("{name}: {compared} compared");
-    assert!(compared > 0, "{name} compared nothing");
+    report::compared(compared, &format!("of the reference: {name}"));
 }

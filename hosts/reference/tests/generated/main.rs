@@ -22,7 +22,6 @@ fn every_operation_on_generated_requests() {
         + writes::auth(&mut coverage)
         + writes::listings(&mut coverage);
     coverage.print();
-    coverage.assert_complete();
-    assert_eq!(coverage.operations(), LISTED.len());
+    coverage.assert_complete(LISTED.map(|(operation, _)| operation));
     common::report("generated requests", compared);
 }
