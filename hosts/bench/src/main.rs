@@ -4,10 +4,13 @@
 //! A command and no test, since a time depends on what else runs.
 #![forbid(unsafe_code)]
 
+mod answer;
 mod groups;
 mod measure;
+mod ours;
 mod samples;
 mod table;
+mod theirs;
 
 use std::process::ExitCode;
 use table::Table;

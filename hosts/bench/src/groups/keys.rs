@@ -1,7 +1,9 @@
 //! Key sections, against the separate implementation.
 
-use super::agreed;
+use super::lists::ROTATION;
+use crate::answer::agreed;
 use crate::table::Table;
+use crate::{ours, theirs};
 use generator::image::keys;
 use generator::random::Random;
 use generator::tables::{lend, Lent};
@@ -33,7 +35,7 @@ pub fn key(random: &mut Random, ciphertext: usize) -> Key {
 
 fn lists(count: usize, ciphertext: usize) -> Vec<Vec<Key>> {
     let mut random = Random::new(7);
-    let copies = (20_000 / (count * ciphertext)).clamp(2, 128);
+    let copies = (20_000 / (count * ciphertext)).clamp(ROTATION, 128);
     (0..copies)
         .map(|_| (0..count).map(|_| key(&mut random, ciphertext)).collect())
         .collect()
@@ -42,21 +44,15 @@ fn lists(count: usize, ciphertext: usize) -> Vec<Vec<Key>> {
 fn read(table: &mut Table, what: &str, lists: &[Vec<Key>]) {
     let messages: Vec<Vec<u8>> = lists.iter().map(|list| keys(list).bytes).collect();
     let numbers = 6 * lists[0].len();
-    let (mut ours, mut theirs) = (vec![0; numbers], vec![0; numbers]);
+    let (mut our_table, mut their_table) = (vec![0; numbers], vec![0; numbers]);
     let message = |call: usize| &black_box(&messages[..])[call % lists.len()];
     let times = agreed(
         lists.len(),
-        |call| {
-            let table = black_box(&mut ours[..]);
-            bafirolen::read_encrypted_data_keys_section(message(call), 0, None, table)
-                .map_or(0, |read| read.tail)
-        },
-        |call| {
-            let table = black_box(&mut theirs[..]);
-            reference::read_encrypted_data_keys_section(message(call), 0, None, table)
-                .map_or(0, |read| read.tail)
-        },
+        None,
+        |call| ours::read_keys(message(call), black_box(&mut our_table)),
+        |call| theirs::read_keys(message(call), black_box(&mut their_table)),
     );
+    assert!(our_table == their_table);
     table.row(what, "reference", times);
 }
 
@@ -66,19 +62,14 @@ fn write(table: &mut Table, what: &str, lists: &[Vec<Key>]) {
         .iter()
         .map(|keys| lend(&mut random, &[], keys))
         .collect();
-    let (mut ours, mut theirs) = (vec![0; 1 << 17], vec![0; 1 << 17]);
+    let (mut our_out, mut their_out) = (vec![0; 1 << 17], vec![0; 1 << 17]);
     let lent = |call: usize| &black_box(&lent[..])[call % lists.len()];
     let times = agreed(
         lists.len(),
-        |call| {
-            let (lent, out) = (lent(call), black_box(&mut ours[..]));
-            bafirolen::write_encrypted_data_keys_section(&lent.text, &lent.keys, out)
-                .map_or(0, |length| length as u64)
-        },
-        |call| {
-            let (lent, out) = (lent(call), black_box(&mut theirs[..]));
-            reference::write_encrypted_data_keys_section(&lent.text, &lent.keys, out).unwrap_or(0)
-        },
+        None,
+        |call| ours::write_keys(lent(call), black_box(&mut our_out)),
+        |call| theirs::write_keys(lent(call), black_box(&mut their_out)),
     );
+    assert!(our_out == their_out);
     table.row(what, "reference", times);
 }

@@ -1,5 +1,6 @@
 //! The leaves, against std and the separate implementation.
 
+use super::lists::ROTATION;
 use crate::measure::versus;
 use crate::samples;
 use crate::table::Table;
@@ -12,8 +13,6 @@ use std::str::from_utf8;
 /// predictor from knowing them all.
 const COUNT: usize = 1 << 12;
 const LONG: usize = 1 << 16;
-/// Few enough to stay in a cache of half a megabyte.
-const LONG_COUNT: usize = 6;
 const SIZES: [usize; 4] = [5, 64, 1_024, 60_000];
 
 pub fn rows(table: &mut Table) {
@@ -65,7 +64,7 @@ fn utf8_texts(table: &mut Table) {
         ("emoji", samples::EMOJI, ""),
     ];
     for (kind, words, between) in kinds {
-        let bytes = samples::texts(words, between, LONG, LONG_COUNT);
+        let bytes = samples::texts(words, between, LONG, ROTATION);
         utf8(table, &format!("UTF-8, 64 KB, {kind}"), &bytes, LONG);
     }
 }
@@ -115,13 +114,17 @@ fn entry_reads(table: &mut Table) {
 
 fn entry_writes(table: &mut Table) {
     for size in SIZES {
-        let text = Random::new(3).bytes(size);
+        let text = Random::new(3).bytes(ROTATION * size);
+        let start = |call: usize| call % ROTATION * size;
         let mut out = vec![0; size + 2];
         let mut other = out.clone();
         let times = versus(
-            |_| leaves::put_entry(&text, (0, black_box(size as u64)), black_box(&mut out), 0),
-            |_| {
-                let part = &text[..black_box(size)];
+            |call| {
+                let place = (start(call) as u64, black_box(size as u64));
+                leaves::put_entry(black_box(&text), place, black_box(&mut out), 0)
+            },
+            |call| {
+                let part = &black_box(&text)[start(call)..start(call) + black_box(size)];
                 let (length, rest) = black_box(&mut other[..]).split_at_mut(2);
                 length.copy_from_slice(&(part.len() as u16).to_be_bytes());
                 rest[..part.len()].copy_from_slice(part);
@@ -136,23 +139,35 @@ fn entry_writes(table: &mut Table) {
     }
 }
 
-/// The same bytes twice, one copy behind the other.
+/// The same bytes twice, one copy behind the other; ten of them in a row.
 fn twice(size: usize) -> Vec<u8> {
-    let mut bytes = Random::new(4).bytes(size);
-    bytes.extend_from_within(..);
-    bytes
+    let mut random = Random::new(4);
+    (0..ROTATION)
+        .flat_map(|_| random.bytes(size).repeat(2))
+        .collect()
+}
+
+/// The places of the two copies.
+fn copies(call: usize, size: usize) -> ((u64, u64), (u64, u64)) {
+    let (at, size) = ((call % ROTATION * 2 * size) as u64, size as u64);
+    ((at, size), (at + size, size))
+}
+
+/// The two copies.
+fn halves(bytes: &[u8], call: usize, size: usize) -> (&[u8], &[u8]) {
+    bytes[call % ROTATION * 2 * size..][..2 * size].split_at(size)
 }
 
 fn equality(table: &mut Table) {
     for size in SIZES {
         let bytes = twice(size);
         let times = versus(
-            |_| {
-                let n = black_box(size) as u64;
-                leaves::same_parts(black_box(&bytes), (0, n), (n, n))
+            |call| {
+                let (x, y) = copies(call, black_box(size));
+                leaves::same_parts(black_box(&bytes), x, y)
             },
-            |_| {
-                let (x, y) = black_box(&bytes[..]).split_at(black_box(size));
+            |call| {
+                let (x, y) = halves(black_box(&bytes), call, black_box(size));
                 x == y
             },
         );
@@ -164,14 +179,16 @@ fn order(table: &mut Table) {
     for size in SIZES {
         let mut bytes = twice(size);
         // The last byte decides.
-        bytes[size - 1] ^= 1;
+        for copies in bytes.chunks_exact_mut(2 * size) {
+            copies[size - 1] ^= 1;
+        }
         let times = versus(
-            |_| {
-                let n = black_box(size) as u64;
-                leaves::compare_parts(black_box(&bytes), (0, n), (n, n))
+            |call| {
+                let (x, y) = copies(call, black_box(size));
+                leaves::compare_parts(black_box(&bytes), x, y)
             },
-            |_| {
-                let (x, y) = black_box(&bytes[..]).split_at(black_box(size));
+            |call| {
+                let (x, y) = halves(black_box(&bytes), call, black_box(size));
                 x.cmp(y)
             },
         );

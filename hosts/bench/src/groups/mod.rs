@@ -4,23 +4,9 @@ mod bodies;
 mod context;
 mod keys;
 mod leaves;
+mod lists;
 
-use crate::measure::{versus, Times};
 use crate::table::Table;
-
-/// Times two functions that answer a length or a tail, 0 for a refusal, once
-/// they have given the same on each of the `count` inputs, and accepted it.
-fn agreed(
-    count: usize,
-    mut ours: impl FnMut(usize) -> u64,
-    mut theirs: impl FnMut(usize) -> u64,
-) -> Times {
-    for call in 0..count {
-        let answer = ours(call);
-        assert!(answer > 0 && answer == theirs(call));
-    }
-    versus(ours, theirs)
-}
 
 /// Name, what it is of, and the rows.
 pub type Group = (&'static str, &'static str, fn(&mut Table));

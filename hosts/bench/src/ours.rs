@@ -1,0 +1,93 @@
+//! Every call of the wrapper. An answer is one number, as [`told`] says: a
+//! record would be copied, and the copy measured too.
+
+use crate::answer::told;
+use bafirolen::{Mode, Numbers, Refusal, Request};
+use generator::fields::Fields;
+use generator::tables::Lent;
+
+fn number(refusal: Refusal) -> u32 {
+    refusal.number
+}
+
+#[inline]
+pub fn read_context(message: &[u8], table: &mut [u32]) -> u64 {
+    told(
+        bafirolen::read_aad_section(message, 0, Mode::Tolerant, table)
+            .map(|read| read.tail)
+            .map_err(number),
+    )
+}
+
+#[inline]
+pub fn find(message: &[u8], key: &[u8]) -> u64 {
+    told(
+        bafirolen::find_value(message, 0, key)
+            .map(|place| place.start)
+            .map_err(number),
+    )
+}
+
+#[inline]
+pub fn write_context(lent: &Lent, out: &mut [u8]) -> u64 {
+    told(
+        bafirolen::write_aad_section(&lent.text, &lent.pairs, out)
+            .map(|length| length as u64)
+            .map_err(number),
+    )
+}
+
+#[inline]
+pub fn read_keys(message: &[u8], table: &mut [u32]) -> u64 {
+    told(
+        bafirolen::read_encrypted_data_keys_section(message, 0, None, table)
+            .map(|read| read.tail)
+            .map_err(number),
+    )
+}
+
+#[inline]
+pub fn write_keys(lent: &Lent, out: &mut [u8]) -> u64 {
+    told(
+        bafirolen::write_encrypted_data_keys_section(&lent.text, &lent.keys, out)
+            .map(|length| length as u64)
+            .map_err(number),
+    )
+}
+
+#[inline]
+pub fn read_body(message: &[u8], pairs: &mut [u32], keys: &mut [u32]) -> u64 {
+    told(
+        bafirolen::read_header_body(message, 0, Request::default(), pairs, keys)
+            .map(|body| body.tail)
+            .map_err(number),
+    )
+}
+
+#[inline]
+pub fn write_body(fields: &Fields, lent: &Lent, out: &mut [u8]) -> u64 {
+    let numbers = Numbers {
+        version: fields.version,
+        message_type: fields.message_type,
+        suite: fields.suite,
+        content_type: fields.content_type,
+        header_iv_length: fields.iv_length,
+        frame_length: fields.frame_length,
+    };
+    let (id, data) = (&fields.id, &fields.suite_data);
+    let (text, pairs, keys) = (&lent.text, &lent.pairs, &lent.keys);
+    told(
+        bafirolen::write_header_body(numbers, id, data, text, pairs, keys, out)
+            .map(|length| length as u64)
+            .map_err(number),
+    )
+}
+
+#[inline]
+pub fn write_listing(message: &[u8], out: &mut [u8]) -> u64 {
+    told(
+        bafirolen::write_listing(message, out)
+            .map(|length| length as u64)
+            .map_err(number),
+    )
+}

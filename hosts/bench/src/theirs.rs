@@ -1,0 +1,71 @@
+//! The calls of the separate implementation that stand beside those of
+//! [`crate::ours`].
+
+use crate::answer::told;
+use generator::fields::Fields;
+use generator::tables::Lent;
+use reference::{Mode, Numbers, Refusal, Which};
+
+fn number(refusal: Refusal) -> u32 {
+    refusal.number
+}
+
+#[inline]
+pub fn read_context(message: &[u8], table: &mut [u32]) -> u64 {
+    told(
+        reference::read_aad_section(message, 0, Mode::Tolerant, table)
+            .map(|read| read.tail)
+            .map_err(number),
+    )
+}
+
+#[inline]
+pub fn find(message: &[u8], key: &[u8]) -> u64 {
+    told(
+        reference::find(message, 0, key)
+            .map(|place| place.start)
+            .map_err(number),
+    )
+}
+
+#[inline]
+pub fn write_context(lent: &Lent, out: &mut [u8]) -> u64 {
+    told(reference::write_aad_section(&lent.text, &lent.pairs, out).map_err(number))
+}
+
+#[inline]
+pub fn read_keys(message: &[u8], table: &mut [u32]) -> u64 {
+    told(
+        reference::read_encrypted_data_keys_section(message, 0, None, table)
+            .map(|read| read.tail)
+            .map_err(number),
+    )
+}
+
+#[inline]
+pub fn write_keys(lent: &Lent, out: &mut [u8]) -> u64 {
+    told(reference::write_encrypted_data_keys_section(&lent.text, &lent.keys, out).map_err(number))
+}
+
+#[inline]
+pub fn read_body(message: &[u8], pairs: &mut [u32], keys: &mut [u32]) -> u64 {
+    let (which, mode) = (Which::Either, Mode::Tolerant);
+    told(
+        reference::read_header_body(message, 0, which, mode, None, pairs, keys)
+            .map(|body| body.tail)
+            .map_err(number),
+    )
+}
+
+#[inline]
+pub fn write_body(fields: &Fields, lent: &Lent, out: &mut [u8]) -> u64 {
+    let numbers = Numbers::from(fields.numbers());
+    let (id, data) = (&fields.id, &fields.suite_data);
+    let (text, pairs, keys) = (&lent.text, &lent.pairs, &lent.keys);
+    told(reference::write_header_body(&numbers, id, data, text, pairs, keys, out).map_err(number))
+}
+
+#[inline]
+pub fn write_listing(message: &[u8], out: &mut [u8]) -> u64 {
+    told(reference::write_listing(message, out).map_err(number))
+}
