@@ -3,18 +3,25 @@
 //!
 //!     cargo run --release --example file_header -- FILE
 
-use bafirolen::{places, read_header_body, write_header_body, Body, Numbers, Request};
+use bafirolen::{read_header_body, write_header_body, Body, Draft, Key, Numbers, Pair, Request};
 use std::error::Error;
+use std::ffi::OsString;
+use std::io::{self, Write};
+use std::path::Path;
+use std::process::ExitCode;
 use std::{env, fs};
 
-/// What is to be filed. Pairs and keys have their places in one text.
-struct Draft {
-    numbers: Numbers,
-    message_id: [u8; 16],
-    text: Vec<u8>,
-    pairs: Vec<u32>,
-    keys: Vec<u32>,
-}
+const NUMBERS: Numbers = Numbers::version_1(0x0178, bafirolen::CONTENT_TYPE_FRAMED, 4_096);
+const MESSAGE_ID: [u8; 16] = [0, 1, 2, 3, 4, 5, 6, 7, 8, 9, 10, 11, 12, 13, 14, 15];
+const PAIRS: [Pair; 1] = [Pair {
+    key: b"lang",
+    value: b"cy",
+}];
+const KEYS: [Key; 1] = [Key {
+    provider_id: b"p1",
+    provider_info: b"a",
+    ciphertext: &[0xAA, 0xBB, 0xCC],
+}];
 
 /// Appends parts to the text, and their places to a table.
 fn lend(text: &mut Vec<u8>, table: &mut Vec<u32>, parts: &[&[u8]]) {
@@ -24,65 +31,55 @@ fn lend(text: &mut Vec<u8>, table: &mut Vec<u32>, parts: &[&[u8]]) {
     }
 }
 
-fn draft() -> Draft {
-    let (mut text, mut pairs, mut keys) = (Vec::new(), Vec::new(), Vec::new());
-    lend(&mut text, &mut pairs, &[b"lang", b"cy"]);
-    lend(&mut text, &mut keys, &[b"p1", b"a", &[0xAA, 0xBB, 0xCC]]);
-    Draft {
-        numbers: Numbers {
-            version: 1,
-            message_type: 0x80,
-            suite: 0x0178,
-            content_type: 2,
-            header_iv_length: 12,
-            frame_length: 4_096,
-        },
-        message_id: std::array::from_fn(|i| i as u8),
-        text,
-        pairs,
-        keys,
-    }
-}
-
-/// Tables hold the same parts, whatever the places.
-fn same_parts(bytes: &[u8], table: &[u32], text: &[u8], lent: &[u32]) -> bool {
-    let read = places(table).map(|place| place.within(bytes));
-    read.eq(places(lent).map(|place| place.within(text)))
-}
-
-/// The header was read to its end and has the draft's fields.
-fn same(draft: &Draft, header: &[u8], body: &Body, pairs: &[u32], keys: &[u32]) -> bool {
+/// The header was read to its end and has the fields.
+fn same(header: &[u8], body: &Body) -> bool {
     body.tail == header.len() as u64
-        && body.numbers == draft.numbers
-        && body.message_id.within(header) == Some(&draft.message_id)
-        && body.suite_data.len == 0
-        && (4 * body.pair_count, 6 * body.key_count) == (draft.pairs.len(), draft.keys.len())
-        && same_parts(header, pairs, &draft.text, &draft.pairs)
-        && same_parts(header, keys, &draft.text, &draft.keys)
+        && body.numbers == NUMBERS
+        && body.message_id() == MESSAGE_ID
+        && body.suite_data().is_empty()
+        && body.pairs().eq(PAIRS)
+        && body.keys().eq(KEYS)
 }
 
-fn main() -> Result<(), Box<dyn Error>> {
-    let path = env::args_os().nth(1).ok_or("file_header FILE")?;
-    let draft = draft();
+fn run(path: &Path) -> Result<(), Box<dyn Error>> {
+    let (mut text, mut pairs, mut keys) = (Vec::new(), Vec::new(), Vec::new());
+    for pair in PAIRS {
+        lend(&mut text, &mut pairs, &[pair.key, pair.value]);
+    }
+    for key in KEYS {
+        let parts = [key.provider_id, key.provider_info, key.ciphertext];
+        lend(&mut text, &mut keys, &parts);
+    }
+    let draft = Draft::new(NUMBERS, &MESSAGE_ID).with_tables(&text, &pairs, &keys);
     let mut out = [0; 1_024];
-    let length = write_header_body(
-        draft.numbers,
-        &draft.message_id,
-        &[],
-        &draft.text,
-        &draft.pairs,
-        &draft.keys,
-        &mut out,
-    )?;
+    let length = write_header_body(&draft, &mut out)?;
     let header = &out[..length];
 
-    let mut pairs = vec![0; draft.pairs.len()];
-    let mut keys = vec![0; draft.keys.len()];
-    let body = read_header_body(header, 0, Request::default(), &mut pairs, &mut keys)?;
-    if !same(&draft, header, &body, &pairs, &keys) {
+    let (mut read_pairs, mut read_keys) = (vec![0; pairs.len()], vec![0; keys.len()]);
+    let request = Request::default();
+    let body = read_header_body(header, 0, request, &mut read_pairs, &mut read_keys)?;
+    if !same(header, &body) {
         return Err("what was read back is not what was written".into());
     }
-    fs::write(path, header)?;
-    println!("filed {length} bytes");
+    fs::write(path, header).map_err(|error| format!("{}: {error}", path.display()))?;
+    let mut out = io::stdout().lock();
+    writeln!(out, "filed {length} bytes")?;
+    out.flush()?;
     Ok(())
+}
+
+fn main() -> ExitCode {
+    let arguments: Vec<OsString> = env::args_os().skip(1).collect();
+    // What can't be said on standard error is still said by the status.
+    let [path] = &arguments[..] else {
+        let _ = writeln!(io::stderr(), "usage: file_header FILE");
+        return ExitCode::from(2);
+    };
+    match run(Path::new(path)) {
+        Ok(()) => ExitCode::SUCCESS,
+        Err(error) => {
+            let _ = writeln!(io::stderr(), "file_header: {error}");
+            ExitCode::FAILURE
+        }
+    }
 }

@@ -2,28 +2,40 @@
 //!
 //!     cargo run --release --example print_context -- FILE
 
-use bafirolen::{places, read_header_body, Request};
-use std::borrow::Cow;
+use bafirolen::{read_header_body, Request, LARGEST_KEY_TABLE, LARGEST_PAIR_TABLE};
 use std::error::Error;
+use std::ffi::OsString;
+use std::io::{self, Write};
+use std::path::Path;
+use std::process::ExitCode;
+use std::str::from_utf8;
 use std::{env, fs};
 
-/// Tables that hold whatever a header can have: pairs of at least four bytes
-/// each in fewer than 65,534, and 65,535 keys.
-const PAIR_NUMBERS: usize = 4 * 16_383;
-const KEY_NUMBERS: usize = 6 * 65_535;
-
-fn main() -> Result<(), Box<dyn Error>> {
-    let path = env::args_os().nth(1).ok_or("print_context FILE")?;
-    let message = fs::read(path)?;
-    let (mut pairs, mut keys) = (vec![0; PAIR_NUMBERS], vec![0; KEY_NUMBERS]);
+fn run(path: &Path) -> Result<(), Box<dyn Error>> {
+    let message = fs::read(path).map_err(|error| format!("{}: {error}", path.display()))?;
+    let (mut pairs, mut keys) = (vec![0; LARGEST_PAIR_TABLE], vec![0; LARGEST_KEY_TABLE]);
     let body = read_header_body(&message, 0, Request::default(), &mut pairs, &mut keys)?;
 
-    let parts: Vec<Cow<str>> = places(&pairs[..4 * body.pair_count])
-        .filter_map(|place| place.within(&message))
-        .map(String::from_utf8_lossy)
-        .collect();
-    for pair in parts.chunks_exact(2) {
-        println!("{} = {}", pair[0], pair[1]);
+    let mut out = io::stdout().lock();
+    for pair in body.pairs() {
+        writeln!(out, "{} = {}", from_utf8(pair.key)?, from_utf8(pair.value)?)?;
     }
+    out.flush()?;
     Ok(())
+}
+
+fn main() -> ExitCode {
+    let arguments: Vec<OsString> = env::args_os().skip(1).collect();
+    // What can't be said on standard error is still said by the status.
+    let [path] = &arguments[..] else {
+        let _ = writeln!(io::stderr(), "usage: print_context FILE");
+        return ExitCode::from(2);
+    };
+    match run(Path::new(path)) {
+        Ok(()) => ExitCode::SUCCESS,
+        Err(error) => {
+            let _ = writeln!(io::stderr(), "print_context: {error}");
+            ExitCode::FAILURE
+        }
+    }
 }

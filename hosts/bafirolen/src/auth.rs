@@ -1,17 +1,31 @@
 //! The record that authenticates a header.
 
 use crate::writes::length;
-use crate::Refusal;
+use crate::{Refusal, IV_LENGTH, TAG_LENGTH};
 
-/// An accepted record. Version 2 stores no IV; it is twelve 00.
-#[derive(Clone, Copy, Debug, PartialEq, Eq)]
+/// An accepted authentication record.
+#[derive(Clone, Copy, Debug, PartialEq, Eq, Hash)]
+#[non_exhaustive]
+#[must_use]
 pub struct AuthRecord {
-    pub iv: [u8; 12],
-    pub tag: [u8; 16],
+    /// The IV. Version 2 stores none; it is twelve 00.
+    pub iv: [u8; IV_LENGTH],
+    /// The tag.
+    pub tag: [u8; TAG_LENGTH],
+    /// The place of the next byte behind the record.
     pub tail: u64,
 }
 
-/// Reads the record of a suite at `start`.
+/// Reads the authentication record of a suite at `start`, which is the body's
+/// tail where the record stands behind it.
+///
+/// # Errors
+///
+/// In the order of the tests:
+/// - 1 [`NotAddressable`](Refusal::NotAddressable);
+/// - 6 [`UnknownSuite`](Refusal::UnknownSuite);
+/// - 2 [`Shortage`](Refusal::Shortage), at the IV in version 1, then at the
+///   tag.
 #[inline]
 pub fn read_header_auth_tag(message: &[u8], start: u64, suite: u32) -> Result<AuthRecord, Refusal> {
     // SAFETY: pointer and length are the slice's; it is only read.
@@ -26,8 +40,17 @@ pub fn read_header_auth_tag(message: &[u8], start: u64, suite: u32) -> Result<Au
     })
 }
 
-/// Writes the record of a suite; answers its length. Version 2 takes an IV of
-/// twelve bytes too, though it doesn't write it.
+/// Writes the authentication record of a suite to the front of `out`; answers
+/// its length. Version 2 takes an IV of twelve bytes too, though it doesn't
+/// write it.
+///
+/// # Errors
+///
+/// In the order of the tests:
+/// - 6 [`UnknownSuite`](Refusal::UnknownSuite);
+/// - 19 [`IvLength`](Refusal::IvLength);
+/// - 30 [`TagLength`](Refusal::TagLength);
+/// - 28 [`OutputTooShort`](Refusal::OutputTooShort).
 #[inline]
 pub fn write_header_auth_tag(
     suite: u32,

@@ -1,29 +1,147 @@
 //! Reading a header body.
 
 use crate::request::max_asked;
-use crate::{Numbers, Place, Refusal, Request};
+use crate::{Keys, Numbers, Pairs, Place, Refusal, Request, NUMBERS_PER_KEY, NUMBERS_PER_PAIR};
+use core::fmt;
 
-/// An accepted body. Type, IV length and suite data are 0 (start 0, length 0)
-/// in the version that lacks them; `tail` is the place of the next byte.
-#[derive(Clone, Copy, Debug, PartialEq, Eq)]
-pub struct Body {
+/// An accepted body: its numbers and tail, and its parts as they lie in the
+/// message that it was read from.
+#[derive(Clone, Copy)]
+#[non_exhaustive]
+#[must_use]
+pub struct Body<'m, 't> {
+    /// Its fields that are numbers. Type and IV length are 0 in version 2,
+    /// which lacks them.
     pub numbers: Numbers,
-    pub message_id: Place,
-    pub pair_count: usize,
-    pub key_count: usize,
-    pub suite_data: Place,
+    /// The place of the next byte behind the body.
     pub tail: u64,
+    message: &'m [u8],
+    message_id: Place,
+    suite_data: Place,
+    pairs: &'t [u32],
+    keys: &'t [u32],
 }
 
-/// Reads the body at `start` and fills the tables with its pairs and keys.
+impl<'m, 't> Body<'m, 't> {
+    /// The message ID: 16 bytes in version 1, 32 in version 2.
+    #[inline]
+    #[must_use]
+    pub fn message_id(&self) -> &'m [u8] {
+        self.message_id.read(self.message)
+    }
+
+    /// The suite data: 32 bytes in version 2; empty in version 1, which has
+    /// none.
+    #[inline]
+    #[must_use]
+    pub fn suite_data(&self) -> &'m [u8] {
+        self.suite_data.read(self.message)
+    }
+
+    /// Where the message ID stands.
+    #[inline]
+    #[must_use]
+    pub fn message_id_place(&self) -> Place {
+        self.message_id
+    }
+
+    /// Where the suite data stand; start 0 and length 0 in version 1.
+    #[inline]
+    #[must_use]
+    pub fn suite_data_place(&self) -> Place {
+        self.suite_data
+    }
+
+    /// Where the context section begins, which is right behind the message
+    /// ID: the start to give to [`find_value`](crate::find_value),
+    /// [`find_part`](crate::find_part) and [`copy_value`](crate::copy_value).
+    #[inline]
+    #[must_use]
+    pub fn context_start(&self) -> u64 {
+        self.message_id.start + self.message_id.len
+    }
+
+    /// The pairs of the context in their order.
+    #[inline]
+    pub fn pairs(&self) -> Pairs<'m, 't> {
+        Pairs::new(self.message, self.pairs)
+    }
+
+    /// The encrypted data keys in their order.
+    #[inline]
+    pub fn keys(&self) -> Keys<'m, 't> {
+        Keys::new(self.message, self.keys)
+    }
+
+    /// What was filled of the pair table: [`NUMBERS_PER_PAIR`] numbers a
+    /// pair. A writer takes it with the message as the text.
+    #[inline]
+    #[must_use]
+    pub fn pair_table(&self) -> &'t [u32] {
+        self.pairs
+    }
+
+    /// What was filled of the key table: [`NUMBERS_PER_KEY`] numbers a key. A
+    /// writer takes it with the message as the text.
+    #[inline]
+    #[must_use]
+    pub fn key_table(&self) -> &'t [u32] {
+        self.keys
+    }
+}
+
+/// Shows the fields and not the whole message.
+impl fmt::Debug for Body<'_, '_> {
+    fn fmt(&self, f: &mut fmt::Formatter<'_>) -> fmt::Result {
+        f.debug_struct("Body")
+            .field("numbers", &self.numbers)
+            .field("message_id", &self.message_id())
+            .field("pairs", &self.pairs())
+            .field("keys", &self.keys())
+            .field("suite_data", &self.suite_data())
+            .field("tail", &self.tail)
+            .finish()
+    }
+}
+
+/// Reads the body at `start`. The tables are filled with the places of its
+/// pairs and keys, which the answer then borrows; beyond these they keep what
+/// they held.
+///
+/// # Errors
+///
+/// In the order of the tests:
+/// - 1 [`NotAddressable`](Refusal::NotAddressable);
+/// - 2 [`Shortage`](Refusal::Shortage), before each part that is read;
+/// - 3 [`UnknownVersion`](Refusal::UnknownVersion);
+/// - 4 [`OtherVersion`](Refusal::OtherVersion), if one version is asked for;
+/// - 5 [`MessageType`](Refusal::MessageType), in version 1;
+/// - 6 [`UnknownSuite`](Refusal::UnknownSuite);
+/// - 7 [`SuiteOfOtherVersion`](Refusal::SuiteOfOtherVersion);
+/// - 8 [`CountInEmptyContext`](Refusal::CountInEmptyContext);
+/// - 21 [`OldEmptyContext`](Refusal::OldEmptyContext), if strict;
+/// - 9 [`NoCountInContext`](Refusal::NoCountInContext);
+/// - of each pair 10 [`KeyNotUtf8`](Refusal::KeyNotUtf8),
+///   11 [`ValueNotUtf8`](Refusal::ValueNotUtf8),
+///   12 [`KeySeenBefore`](Refusal::KeySeenBefore) and
+///   13 [`PairsTooLong`](Refusal::PairsTooLong);
+/// - 14 [`ContextLength`](Refusal::ContextLength);
+/// - 15 [`TooManyKeys`](Refusal::TooManyKeys), if there is a maximum;
+/// - of each key 16 [`ProviderIdNotUtf8`](Refusal::ProviderIdNotUtf8);
+/// - 17 [`ContentType`](Refusal::ContentType);
+/// - 18 [`ReservedBytes`](Refusal::ReservedBytes) and
+///   19 [`IvLength`](Refusal::IvLength), in version 1;
+/// - 20 [`FrameLength`](Refusal::FrameLength), if either version is asked for;
+/// - 22 [`PairTableTooShort`](Refusal::PairTableTooShort);
+/// - 23 [`KeyTableTooShort`](Refusal::KeyTableTooShort).
 #[inline]
-pub fn read_header_body(
-    message: &[u8],
+pub fn read_header_body<'m, 't>(
+    message: &'m [u8],
     start: u64,
     request: Request,
-    pairs: &mut [u32],
-    keys: &mut [u32],
-) -> Result<Body, Refusal> {
+    pairs: &'t mut [u32],
+    keys: &'t mut [u32],
+) -> Result<Body<'m, 't>, Refusal> {
     let (has_max, max) = max_asked(request.max);
     // SAFETY: pointers and lengths are the slices'; each table is borrowed
     // alone, so they overlap neither each other nor the message.
@@ -44,17 +162,18 @@ pub fn read_header_body(
     };
     Refusal::test(record.number, record.position)?;
     Ok(Body {
-        numbers: record.numbers,
+        numbers: Numbers::of_record(record.numbers),
+        tail: record.tail,
+        message,
         message_id: Place {
             start: record.message_id_start,
             len: record.message_id_len,
         },
-        pair_count: record.pair_count as usize,
-        key_count: record.key_count as usize,
         suite_data: Place {
             start: record.suite_data_start,
             len: record.suite_data_len,
         },
-        tail: record.tail,
+        pairs: &pairs[..NUMBERS_PER_PAIR * record.pair_count as usize],
+        keys: &keys[..NUMBERS_PER_KEY * record.key_count as usize],
     })
 }

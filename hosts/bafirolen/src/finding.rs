@@ -5,6 +5,24 @@ use crate::{Place, Refusal};
 
 /// Where the value of a key stands, in the context section at `start`, read
 /// tolerantly. Any bytes may be asked for.
+///
+/// The section is read, and nothing before or behind it: whoever wants the
+/// value from an accepted header reads that first, and then finds at its
+/// [`context_start`](crate::Body::context_start).
+///
+/// # Errors
+///
+/// In the order of the tests:
+/// - 1 [`NotAddressable`](Refusal::NotAddressable);
+/// - 2 [`Shortage`](Refusal::Shortage), before each part that is read;
+/// - 8 [`CountInEmptyContext`](Refusal::CountInEmptyContext);
+/// - 9 [`NoCountInContext`](Refusal::NoCountInContext);
+/// - of each pair 10 [`KeyNotUtf8`](Refusal::KeyNotUtf8),
+///   11 [`ValueNotUtf8`](Refusal::ValueNotUtf8),
+///   12 [`KeySeenBefore`](Refusal::KeySeenBefore) and
+///   13 [`PairsTooLong`](Refusal::PairsTooLong);
+/// - 14 [`ContextLength`](Refusal::ContextLength);
+/// - 29 [`NotFound`](Refusal::NotFound).
 #[inline]
 pub fn find_value(message: &[u8], start: u64, key: &[u8]) -> Result<Place, Refusal> {
     // SAFETY: pointers and lengths are the slices'; both are only read.
@@ -24,19 +42,29 @@ pub fn find_value(message: &[u8], start: u64, key: &[u8]) -> Result<Place, Refus
     })
 }
 
-/// The value itself as a part of the message; on any refusal the empty part
-/// at the message's front.
+/// The value that [`find_value`] finds as a part of the message; on any
+/// refusal the empty part at the message's front, which a found value that is
+/// empty resembles: [`find_value`] tells the two apart.
+///
+/// The proved operation of this name gives a part of the message, and a
+/// function that crosses to C gives no reference; so the part is cut here, at
+/// the place that the proved find gives. The comparison with the separate
+/// implementation holds the part to its bytes and its address.
+/// [`copy_value`] is the one that runs the proved operation itself.
 #[inline]
-pub fn find_part<'a>(message: &'a [u8], start: u64, key: &[u8]) -> &'a [u8] {
-    find_value(message, start, key)
-        .ok()
-        .and_then(|place| place.within(message))
-        .unwrap_or(&message[..0])
+#[must_use]
+pub fn find_part<'m>(message: &'m [u8], start: u64, key: &[u8]) -> &'m [u8] {
+    find_value(message, start, key).map_or(&message[..0], |place| place.read(message))
 }
 
-/// Copies the value that [`find_value`] finds to the front of `out`, and gives
-/// its length. Refused as there, and by 28 where the value is longer than
-/// `out`; a refusal leaves `out` as it was.
+/// Copies the value that [`find_value`] finds to the front of `out`; answers
+/// its length. The bytes behind it keep, and on a refusal all.
+///
+/// # Errors
+///
+/// Those of [`find_value`], in their order; then
+/// 28 [`OutputTooShort`](Refusal::OutputTooShort), where the value is longer
+/// than `out`.
 #[inline]
 pub fn copy_value(
     message: &[u8],

@@ -5,24 +5,32 @@ use crate::writes::length;
 use crate::Refusal;
 
 /// 0 where the listing program accepts the header at `start`, else the
-/// refusal's number.
+/// refusal's number. It reads either version, tolerantly, any count of keys,
+/// with tables of 4,096 numbers, which lie on the stack.
 #[inline]
+#[must_use]
 pub fn header_number(message: &[u8], start: u64) -> u32 {
     // SAFETY: pointer and length are the slice's; it is only read.
     unsafe { bafirolen_sys::bafirolen_header_number(message.as_ptr(), message.len(), start) }
 }
 
 /// The tail where the listing program accepts the header at `start`, else the
-/// refusal's position.
+/// refusal's position. It reads as [`header_number`] does.
 #[inline]
+#[must_use]
 pub fn header_position(message: &[u8], start: u64) -> u64 {
     // SAFETY: as for `header_number`.
     unsafe { bafirolen_sys::bafirolen_header_position(message.as_ptr(), message.len(), start) }
 }
 
 /// Writes the listing of the header at the front of the message, or of its
-/// refusal; answers the text's length. Only an output that is too short is
-/// refused; one of 28 bytes more than two for each of the message never is.
+/// refusal, to the front of `out`; answers the text's length. A message that
+/// is refused has a listing too, the line that says so. An output of 28 bytes
+/// more than two for each of the message is never too short.
+///
+/// # Errors
+///
+/// 28 [`OutputTooShort`](Refusal::OutputTooShort).
 #[inline]
 pub fn write_listing(message: &[u8], out: &mut [u8]) -> Result<usize, Refusal> {
     // SAFETY: pointers and lengths are the slices'; `out` is borrowed alone,
@@ -35,4 +43,13 @@ pub fn write_listing(message: &[u8], out: &mut [u8]) -> Result<usize, Refusal> {
             out.len(),
         )
     })
+}
+
+/// Which declarations the archive was made for: [`VERSION`](crate::VERSION),
+/// unless a stale archive was linked.
+#[inline]
+#[must_use]
+pub fn version() -> u32 {
+    // SAFETY: nothing is lent.
+    unsafe { bafirolen_sys::bafirolen_version() }
 }

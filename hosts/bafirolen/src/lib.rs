@@ -1,44 +1,125 @@
-//! The proved codec of message headers for Rust callers.
+//! A codec of AWS Encryption SDK message headers: a safe wrapper of proved
+//! operations, which lie in the archive that `bafirolen-sys` links.
 //!
-//! Readers take a message and a start, and fill lent tables: four numbers a
-//! pair (key start, key length, value start, value length), six a key
-//! (provider ID, provider info, ciphertext). Writers take such tables with
-//! places in a lent text, and fill a lent output from its first byte. What is
-//! lent keeps its entries beyond those filled, and all of them on a refusal.
+//! # Lending
+//!
+//! No function allocates, and none keeps anything. A reader takes a message
+//! and the place where it starts, and fills lent tables of numbers with the
+//! places of what it read: [`NUMBERS_PER_PAIR`] numbers for each pair of the
+//! encryption context, [`NUMBERS_PER_KEY`] for each encrypted data key. Its
+//! answer borrows both, and gives the pairs and keys as parts of the message.
+//! A writer takes such tables with places in a lent text, and fills a lent
+//! output from its first byte. What is lent keeps its entries beyond those
+//! filled, and on a refusal all of them.
+//!
+//! Tables of [`LARGEST_PAIR_TABLE`] and [`LARGEST_KEY_TABLE`] numbers (256 KiB
+//! and 1.5 MiB) are never too short; a caller that knows its headers lends
+//! shorter ones.
+//!
+//! # Reading
+//!
+//! ```
+//! use bafirolen::{find_part, read_header_body, Request};
+//!
+//! # fn main() -> Result<(), bafirolen::Refusal> {
+//! let message = b"\x01\x80\x01\x78\x00\x01\x02\x03\x04\x05\x06\x07\x08\x09\x0A\x0B\x0C\x0D\x0E\x0F\
+//!     \x00\x0C\x00\x01\x00\x04lang\x00\x02cy\
+//!     \x00\x01\x00\x02p1\x00\x01a\x00\x03\xAA\xBB\xCC\
+//!     \x02\x00\x00\x00\x00\x0C\x00\x00\x10\x00";
+//! let (mut pairs, mut keys) = ([0; 40], [0; 60]); // up to ten of each
+//! let body = read_header_body(message, 0, Request::default(), &mut pairs, &mut keys)?;
+//!
+//! assert_eq!((body.numbers.suite, body.numbers.frame_length), (0x0178, 4_096));
+//! assert_eq!(body.message_id(), &message[4..20]);
+//! assert_eq!(body.tail, 58);
+//! for pair in body.pairs() {
+//!     assert_eq!((pair.key, pair.value), (&b"lang"[..], &b"cy"[..]));
+//! }
+//! for key in body.keys() {
+//!     assert_eq!((key.provider_id, key.provider_info), (&b"p1"[..], &b"a"[..]));
+//!     assert_eq!(key.ciphertext, [0xAA, 0xBB, 0xCC]);
+//! }
+//! assert_eq!(find_part(message, body.context_start(), b"lang"), b"cy");
+//! # Ok(())
+//! # }
+//! ```
+//!
+//! # Writing
+//!
+//! ```
+//! use bafirolen::{write_header_body, Draft, Numbers, CONTENT_TYPE_FRAMED};
+//!
+//! # fn main() -> Result<(), bafirolen::Refusal> {
+//! let text = b"langcyp1a\xAA\xBB\xCC";
+//! let pairs = [0, 4, 4, 2]; // "lang" and "cy"
+//! let keys = [6, 2, 8, 1, 9, 3]; // "p1", "a" and AA BB CC
+//! let message_id = [0x11; 16];
+//! let draft = Draft::new(Numbers::version_1(0x0178, CONTENT_TYPE_FRAMED, 4_096), &message_id)
+//!     .with_tables(text, &pairs, &keys);
+//! let mut out = [0; 256];
+//! let length = write_header_body(&draft, &mut out)?;
+//! assert_eq!(length, 58);
+//! assert_eq!(bafirolen::header_number(&out[..length], 0), 0);
+//! # Ok(())
+//! # }
+//! ```
+//!
+//! # Refusals
+//!
+//! Whatever is handed in, a function accepts it or answers one [`Refusal`].
+//! Its [`remedy`](Refusal::remedy) says what a caller does:
+//!
+//! - [`Remedy::Wait`] (2): the message breaks off. Fetch until it has that
+//!   many bytes, and ask again; if no more will come, reject it.
+//! - [`Remedy::LendMore`] (22, 23, 28): a table or the output is too short.
+//!   Lend a longer one, and ask again.
+//! - [`Remedy::Reject`] (all others): no bytes and no room change the answer.
+//!
+//! The functions say under 'Errors' which refusals they answer, in the order
+//! of their tests: of several that apply, the first is answered.
+//!
+//! # Safety, stack and platform
 //!
 //! Every function is safe for any arguments. A slice gives a pointer that is
 //! good for its length; that of an empty one leads nowhere, but its length,
 //! 0, goes with it, and the operations touch nothing at or beyond a length.
 //! `&mut` keeps what is filled apart from all else, and the operations have
-//! no condition on the numbers.
+//! no condition on the numbers. That the places in an accepted answer lie in
+//! the message is proved of the operations; with a stale archive, cutting a
+//! part might panic.
 //!
-//! ```
-//! // A context section of one pair, "lang" and "cy", and its value.
-//! let text = *b"langcy";
-//! let mut out = [0; 20];
-//! let length = bafirolen::write_aad_section(&text, &[0, 4, 4, 2], &mut out)?;
-//! assert_eq!(bafirolen::find_part(&out[..length], 0, b"lang"), b"cy");
-//! # Ok::<(), bafirolen::Refusal>(())
-//! ```
+//! STACK: for what a call needs, see `include/bafirolen.h`.
+//!
+//! The archive holds x86-64 code for Linux. The crate uses `core` alone, and
+//! needs Rust 1.87 or later.
+#![no_std]
+#![deny(missing_docs)]
 
 mod auth;
 mod body;
+mod constants;
+mod draft;
 mod finding;
 mod host;
+mod parts;
 mod place;
 mod refusal;
+mod remedy;
 mod request;
 mod sections;
 mod writes;
 
 pub use auth::{read_header_auth_tag, write_header_auth_tag, AuthRecord};
+pub use bafirolen_sys::VERSION;
 pub use body::{read_header_body, Body};
+pub use constants::*;
+pub use draft::{Draft, Numbers};
 pub use finding::{copy_value, find_part, find_value};
-pub use host::{header_number, header_position, write_listing};
-pub use place::{places, Place};
+pub use host::{header_number, header_position, version, write_listing};
+pub use parts::{Key, Keys, Pair, Pairs};
+pub use place::Place;
 pub use refusal::Refusal;
+pub use remedy::Remedy;
 pub use request::{Mode, Request, Which};
-pub use sections::{read_aad_section, read_encrypted_data_keys_section, Section};
-pub use writes::{
-    write_aad_section, write_encrypted_data_keys_section, write_header_body, Numbers,
-};
+pub use sections::{read_aad_section, read_encrypted_data_keys_section, Context, KeySection};
+pub use writes::{write_aad_section, write_encrypted_data_keys_section, write_header_body};

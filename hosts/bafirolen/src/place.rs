@@ -3,26 +3,25 @@
 /// Start and length of a part. An empty part starts where its bytes would.
 #[derive(Clone, Copy, Debug, Default, PartialEq, Eq, Hash)]
 pub struct Place {
+    /// The place of its first byte, counted from that of the message or text.
     pub start: u64,
+    /// How many bytes it has.
     pub len: u64,
 }
 
 impl Place {
     /// The part itself; `None` where it doesn't lie inside `bytes`.
     #[inline]
+    #[must_use]
     pub fn within(self, bytes: &[u8]) -> Option<&[u8]> {
         let start = usize::try_from(self.start).ok()?;
         let end = usize::try_from(self.start.checked_add(self.len)?).ok()?;
         bytes.get(start..end)
     }
-}
 
-/// The places in a table, in order: two a pair, three a key. A number left
-/// over at the end is no place.
-#[inline]
-pub fn places(table: &[u32]) -> impl Iterator<Item = Place> + '_ {
-    table.chunks_exact(2).map(|place| Place {
-        start: place[0].into(),
-        len: place[1].into(),
-    })
+    /// The part at a place that a reader gave, which lies inside the message.
+    #[inline]
+    pub(crate) fn read(self, message: &[u8]) -> &[u8] {
+        &message[self.start as usize..][..self.len as usize]
+    }
 }

@@ -4,8 +4,10 @@
 /// Whether 00 02 00 00, the old form of an empty context, is accepted.
 #[derive(Clone, Copy, Debug, Default, PartialEq, Eq, Hash)]
 pub enum Mode {
+    /// It is accepted, beside today's 00 00.
     #[default]
     Tolerant,
+    /// It is refused by 21.
     Strict,
 }
 
@@ -13,18 +15,70 @@ pub enum Mode {
 /// frame length against the content type.
 #[derive(Clone, Copy, Debug, Default, PartialEq, Eq, Hash)]
 pub enum Which {
+    /// Versions 1 and 2. This reader alone tests the frame length (20).
     #[default]
     Either,
+    /// Version 1; version 2 is refused by 4.
     V1Only,
+    /// Version 2; version 1 is refused by 4.
     V2Only,
 }
 
-/// A request to read a body; `max` is the greatest count of keys taken.
+/// A request to read a body. By default either version is taken, tolerantly
+/// and with any count of keys.
+///
+/// ```
+/// use bafirolen::{Mode, Request, Which};
+///
+/// let request = Request::default().only(Which::V2Only).strict().at_most(3);
+/// assert_eq!(request.which, Which::V2Only);
+/// assert_eq!(request.mode, Mode::Strict);
+/// assert_eq!(request.max, Some(3));
+/// ```
 #[derive(Clone, Copy, Debug, Default, PartialEq, Eq, Hash)]
+#[non_exhaustive]
+#[must_use]
 pub struct Request {
+    /// Which versions are taken.
     pub which: Which,
+    /// Whether the old form of an empty context is accepted.
     pub mode: Mode,
+    /// The greatest count of keys that is taken; `None`: any.
     pub max: Option<u64>,
+}
+
+impl Request {
+    /// The default, as a constant.
+    #[inline]
+    pub const fn new() -> Request {
+        Request {
+            which: Which::Either,
+            mode: Mode::Tolerant,
+            max: None,
+        }
+    }
+
+    /// The same request, of these versions.
+    #[inline]
+    pub const fn only(mut self, which: Which) -> Request {
+        self.which = which;
+        self
+    }
+
+    /// The same request, which refuses the old form of an empty context.
+    #[inline]
+    pub const fn strict(mut self) -> Request {
+        self.mode = Mode::Strict;
+        self
+    }
+
+    /// The same request, of at most that many keys. At most 0 takes a body
+    /// without keys.
+    #[inline]
+    pub const fn at_most(mut self, keys: u64) -> Request {
+        self.max = Some(keys);
+        self
+    }
 }
 
 impl Mode {

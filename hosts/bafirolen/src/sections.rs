@@ -1,37 +1,111 @@
 //! Reading one section on its own.
 
 use crate::request::max_asked;
-use crate::{Mode, Refusal};
-use bafirolen_sys::BafirolenSection;
+use crate::{Keys, Mode, Pairs, Refusal, NUMBERS_PER_KEY, NUMBERS_PER_PAIR};
+use core::fmt;
 
-/// An accepted section: how many pairs or keys, and the place of the next
-/// byte.
-#[derive(Clone, Copy, Debug, PartialEq, Eq)]
-pub struct Section {
-    pub count: usize,
+/// An accepted context section.
+#[derive(Clone, Copy)]
+#[non_exhaustive]
+#[must_use]
+pub struct Context<'m, 't> {
+    /// The place of the next byte behind the section.
     pub tail: u64,
+    message: &'m [u8],
+    table: &'t [u32],
 }
 
-#[inline]
-fn section(record: BafirolenSection) -> Result<Section, Refusal> {
-    Refusal::test(record.number, record.position)?;
-    Ok(Section {
-        count: record.count as usize,
-        tail: record.tail,
-    })
+/// An accepted section of encrypted data keys.
+#[derive(Clone, Copy)]
+#[non_exhaustive]
+#[must_use]
+pub struct KeySection<'m, 't> {
+    /// The place of the next byte behind the section.
+    pub tail: u64,
+    message: &'m [u8],
+    table: &'t [u32],
 }
 
-/// Reads the context section at `start` and fills the table with its pairs.
+impl<'m, 't> Context<'m, 't> {
+    /// The pairs in their order.
+    #[inline]
+    pub fn pairs(&self) -> Pairs<'m, 't> {
+        Pairs::new(self.message, self.table)
+    }
+
+    /// What was filled of the table: [`NUMBERS_PER_PAIR`] numbers a pair. A
+    /// writer takes it with the message as the text.
+    #[inline]
+    #[must_use]
+    pub fn pair_table(&self) -> &'t [u32] {
+        self.table
+    }
+}
+
+impl<'m, 't> KeySection<'m, 't> {
+    /// The keys in their order.
+    #[inline]
+    pub fn keys(&self) -> Keys<'m, 't> {
+        Keys::new(self.message, self.table)
+    }
+
+    /// What was filled of the table: [`NUMBERS_PER_KEY`] numbers a key. A
+    /// writer takes it with the message as the text.
+    #[inline]
+    #[must_use]
+    pub fn key_table(&self) -> &'t [u32] {
+        self.table
+    }
+}
+
+/// Shows the pairs and not the whole message.
+impl fmt::Debug for Context<'_, '_> {
+    fn fmt(&self, f: &mut fmt::Formatter<'_>) -> fmt::Result {
+        f.debug_struct("Context")
+            .field("pairs", &self.pairs())
+            .field("tail", &self.tail)
+            .finish()
+    }
+}
+
+/// Shows the keys and not the whole message.
+impl fmt::Debug for KeySection<'_, '_> {
+    fn fmt(&self, f: &mut fmt::Formatter<'_>) -> fmt::Result {
+        f.debug_struct("KeySection")
+            .field("keys", &self.keys())
+            .field("tail", &self.tail)
+            .finish()
+    }
+}
+
+/// Reads the context section at `start`. The table is filled with the places
+/// of its pairs, which the answer then borrows; beyond these it keeps what it
+/// held.
+///
+/// # Errors
+///
+/// In the order of the tests:
+/// - 1 [`NotAddressable`](Refusal::NotAddressable);
+/// - 2 [`Shortage`](Refusal::Shortage), before each part that is read;
+/// - 8 [`CountInEmptyContext`](Refusal::CountInEmptyContext);
+/// - 21 [`OldEmptyContext`](Refusal::OldEmptyContext), if strict;
+/// - 9 [`NoCountInContext`](Refusal::NoCountInContext);
+/// - of each pair 10 [`KeyNotUtf8`](Refusal::KeyNotUtf8),
+///   11 [`ValueNotUtf8`](Refusal::ValueNotUtf8),
+///   12 [`KeySeenBefore`](Refusal::KeySeenBefore) and
+///   13 [`PairsTooLong`](Refusal::PairsTooLong);
+/// - 14 [`ContextLength`](Refusal::ContextLength);
+/// - 22 [`PairTableTooShort`](Refusal::PairTableTooShort).
 #[inline]
-pub fn read_aad_section(
-    message: &[u8],
+pub fn read_aad_section<'m, 't>(
+    message: &'m [u8],
     start: u64,
     mode: Mode,
-    pairs: &mut [u32],
-) -> Result<Section, Refusal> {
+    pairs: &'t mut [u32],
+) -> Result<Context<'m, 't>, Refusal> {
     // SAFETY: pointers and lengths are the slices'; `pairs` is borrowed
     // alone, so it doesn't overlap the message.
-    section(unsafe {
+    let record = unsafe {
         bafirolen_sys::bafirolen_read_aad_section(
             message.as_ptr(),
             message.len(),
@@ -40,21 +114,37 @@ pub fn read_aad_section(
             pairs.as_mut_ptr(),
             pairs.len(),
         )
+    };
+    Refusal::test(record.number, record.position)?;
+    Ok(Context {
+        tail: record.tail,
+        message,
+        table: &pairs[..NUMBERS_PER_PAIR * record.count as usize],
     })
 }
 
-/// Reads the key section at `start`, of at most `max` keys where it is given,
-/// and fills the table with its keys.
+/// Reads the section of encrypted data keys at `start`, of at most `max` keys
+/// where that is given. The table is filled with the places of the keys'
+/// parts, which the answer then borrows; beyond these it keeps what it held.
+///
+/// # Errors
+///
+/// In the order of the tests:
+/// - 1 [`NotAddressable`](Refusal::NotAddressable);
+/// - 2 [`Shortage`](Refusal::Shortage), before each part that is read;
+/// - 15 [`TooManyKeys`](Refusal::TooManyKeys), before any key is read;
+/// - of each key 16 [`ProviderIdNotUtf8`](Refusal::ProviderIdNotUtf8);
+/// - 23 [`KeyTableTooShort`](Refusal::KeyTableTooShort).
 #[inline]
-pub fn read_encrypted_data_keys_section(
-    message: &[u8],
+pub fn read_encrypted_data_keys_section<'m, 't>(
+    message: &'m [u8],
     start: u64,
     max: Option<u64>,
-    keys: &mut [u32],
-) -> Result<Section, Refusal> {
+    keys: &'t mut [u32],
+) -> Result<KeySection<'m, 't>, Refusal> {
     let (has_max, max) = max_asked(max);
     // SAFETY: as for `read_aad_section`.
-    section(unsafe {
+    let record = unsafe {
         bafirolen_sys::bafirolen_read_encrypted_data_keys_section(
             message.as_ptr(),
             message.len(),
@@ -64,5 +154,11 @@ pub fn read_encrypted_data_keys_section(
             keys.as_mut_ptr(),
             keys.len(),
         )
+    };
+    Refusal::test(record.number, record.position)?;
+    Ok(KeySection {
+        tail: record.tail,
+        message,
+        table: &keys[..NUMBERS_PER_KEY * record.count as usize],
     })
 }

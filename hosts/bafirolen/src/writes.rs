@@ -1,11 +1,7 @@
 //! Writing sections and bodies.
 
-use crate::Refusal;
+use crate::{Draft, Refusal};
 use bafirolen_sys::BafirolenWritten;
-
-/// The fields of a body that are numbers, as the reader gives them. Each has 32
-/// bits, so that one that its field can't hold is refused and never cut.
-pub use bafirolen_sys::BafirolenNumbers as Numbers;
 
 /// The length of what was written, which fits the output.
 #[inline]
@@ -14,7 +10,19 @@ pub(crate) fn length(record: BafirolenWritten) -> Result<usize, Refusal> {
     Ok(record.length as usize)
 }
 
-/// Writes a context section of the table's pairs; answers its length.
+/// Writes a context section of the table's pairs, whose places lie in `text`,
+/// to the front of `out`; answers its length.
+///
+/// # Errors
+///
+/// In the order of the tests:
+/// - 26 [`TableOrPlace`](Refusal::TableOrPlace);
+/// - 27 [`CountOrPartTooLong`](Refusal::CountOrPartTooLong);
+/// - of each pair 10 [`KeyNotUtf8`](Refusal::KeyNotUtf8),
+///   11 [`ValueNotUtf8`](Refusal::ValueNotUtf8) and
+///   12 [`KeySeenBefore`](Refusal::KeySeenBefore);
+/// - 13 [`PairsTooLong`](Refusal::PairsTooLong);
+/// - 28 [`OutputTooShort`](Refusal::OutputTooShort).
 #[inline]
 pub fn write_aad_section(text: &[u8], pairs: &[u32], out: &mut [u8]) -> Result<usize, Refusal> {
     // SAFETY: pointers and lengths are the slices'; `out` is borrowed alone,
@@ -31,7 +39,16 @@ pub fn write_aad_section(text: &[u8], pairs: &[u32], out: &mut [u8]) -> Result<u
     })
 }
 
-/// Writes a key section of the table's keys; answers its length.
+/// Writes a section of the table's keys, whose places lie in `text`, to the
+/// front of `out`; answers its length.
+///
+/// # Errors
+///
+/// In the order of the tests:
+/// - 26 [`TableOrPlace`](Refusal::TableOrPlace);
+/// - 27 [`CountOrPartTooLong`](Refusal::CountOrPartTooLong);
+/// - of each key 16 [`ProviderIdNotUtf8`](Refusal::ProviderIdNotUtf8);
+/// - 28 [`OutputTooShort`](Refusal::OutputTooShort).
 #[inline]
 pub fn write_encrypted_data_keys_section(
     text: &[u8],
@@ -51,32 +68,45 @@ pub fn write_encrypted_data_keys_section(
     })
 }
 
-/// Writes a body; answers its length. Pairs and keys have their places in one
-/// text.
+/// Writes the body of a draft to the front of `out`; answers its length.
+///
+/// # Errors
+///
+/// In the order of the tests:
+/// - 3 [`UnknownVersion`](Refusal::UnknownVersion);
+/// - 5 [`MessageType`](Refusal::MessageType);
+/// - 6 [`UnknownSuite`](Refusal::UnknownSuite);
+/// - 7 [`SuiteOfOtherVersion`](Refusal::SuiteOfOtherVersion);
+/// - 24 [`IdLength`](Refusal::IdLength);
+/// - of the pairs 26 [`TableOrPlace`](Refusal::TableOrPlace),
+///   27 [`CountOrPartTooLong`](Refusal::CountOrPartTooLong), of each
+///   10 [`KeyNotUtf8`](Refusal::KeyNotUtf8),
+///   11 [`ValueNotUtf8`](Refusal::ValueNotUtf8) and
+///   12 [`KeySeenBefore`](Refusal::KeySeenBefore), then
+///   13 [`PairsTooLong`](Refusal::PairsTooLong);
+/// - of the keys 26 and 27 likewise, and of each
+///   16 [`ProviderIdNotUtf8`](Refusal::ProviderIdNotUtf8);
+/// - 17 [`ContentType`](Refusal::ContentType);
+/// - 19 [`IvLength`](Refusal::IvLength);
+/// - 25 [`SuiteDataLength`](Refusal::SuiteDataLength);
+/// - 20 [`FrameLength`](Refusal::FrameLength);
+/// - 28 [`OutputTooShort`](Refusal::OutputTooShort).
 #[inline]
-pub fn write_header_body(
-    numbers: Numbers,
-    message_id: &[u8],
-    suite_data: &[u8],
-    text: &[u8],
-    pairs: &[u32],
-    keys: &[u32],
-    out: &mut [u8],
-) -> Result<usize, Refusal> {
+pub fn write_header_body(draft: &Draft<'_>, out: &mut [u8]) -> Result<usize, Refusal> {
     // SAFETY: as for `write_aad_section`.
     length(unsafe {
         bafirolen_sys::bafirolen_write_header_body(
-            numbers,
-            message_id.as_ptr(),
-            message_id.len(),
-            suite_data.as_ptr(),
-            suite_data.len(),
-            text.as_ptr(),
-            text.len(),
-            pairs.as_ptr(),
-            pairs.len(),
-            keys.as_ptr(),
-            keys.len(),
+            draft.numbers.record(),
+            draft.message_id.as_ptr(),
+            draft.message_id.len(),
+            draft.suite_data.as_ptr(),
+            draft.suite_data.len(),
+            draft.text.as_ptr(),
+            draft.text.len(),
+            draft.pairs.as_ptr(),
+            draft.pairs.len(),
+            draft.keys.as_ptr(),
+            draft.keys.len(),
             out.as_mut_ptr(),
             out.len(),
         )

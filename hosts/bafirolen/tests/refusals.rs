@@ -1,18 +1,98 @@
-//! Refusals in words.
+//! Refusals: their numbers, words and remedies.
 
-use bafirolen::{find_value, Refusal};
-use std::collections::HashSet;
+use bafirolen::{find_value, Refusal, Remedy};
 use std::error::Error;
 
+const README: &str = include_str!("../../../README.md");
+
+/// Every refusal in the order of its number.
+const ALL: [Refusal; 30] = [
+    Refusal::NotAddressable,
+    Refusal::Shortage { position: 0 },
+    Refusal::UnknownVersion,
+    Refusal::OtherVersion,
+    Refusal::MessageType,
+    Refusal::UnknownSuite,
+    Refusal::SuiteOfOtherVersion,
+    Refusal::CountInEmptyContext,
+    Refusal::NoCountInContext,
+    Refusal::KeyNotUtf8,
+    Refusal::ValueNotUtf8,
+    Refusal::KeySeenBefore,
+    Refusal::PairsTooLong,
+    Refusal::ContextLength,
+    Refusal::TooManyKeys,
+    Refusal::ProviderIdNotUtf8,
+    Refusal::ContentType,
+    Refusal::ReservedBytes,
+    Refusal::IvLength,
+    Refusal::FrameLength,
+    Refusal::OldEmptyContext,
+    Refusal::PairTableTooShort,
+    Refusal::KeyTableTooShort,
+    Refusal::IdLength,
+    Refusal::SuiteDataLength,
+    Refusal::TableOrPlace,
+    Refusal::CountOrPartTooLong,
+    Refusal::OutputTooShort,
+    Refusal::NotFound,
+    Refusal::TagLength,
+];
+
 #[test]
-fn each_number_has_its_words() {
-    let refusal = |number| Refusal {
-        number,
-        position: 0,
-    };
-    let texts: HashSet<&str> = (1..=30).map(|number| refusal(number).text()).collect();
-    assert_eq!(texts.len(), 30);
-    assert!(!texts.contains(refusal(31).text()));
+fn each_has_the_number_and_words_of_the_table() {
+    let mut rows = README
+        .lines()
+        .skip_while(|line| !line.starts_with("| number | meaning |"))
+        .skip(2)
+        .take_while(|line| line.starts_with('|'));
+    for (refusal, nth) in ALL.into_iter().zip(1..) {
+        let row = rows.next().expect("a row of the table");
+        let cells: Vec<&str> = row.split('|').map(str::trim).collect();
+        assert_eq!(cells[1], nth.to_string());
+        assert_eq!(cells[2], refusal.text());
+        assert_eq!(refusal.number(), nth);
+        if nth != 2 {
+            assert_eq!(
+                refusal.to_string(),
+                format!("refusal {nth}: {}", refusal.text())
+            );
+        }
+    }
+    assert_eq!(rows.next(), None);
+}
+
+#[test]
+fn numbers_and_positions_are_kept() {
+    for (refusal, number) in ALL.into_iter().zip(1..) {
+        assert_eq!(Refusal::from_number(number, 0), refusal);
+        let other = Refusal::from_number(number, 7);
+        assert_eq!((other.number(), other.position()), (number, 7));
+        assert_eq!(matches!(other, Refusal::Unlisted { .. }), number != 2);
+    }
+    for number in [0, 31, 256, 258, u32::MAX] {
+        for position in [0, 9] {
+            let refusal = Refusal::from_number(number, position);
+            assert_eq!(refusal, Refusal::Unlisted { number, position });
+            assert_eq!((refusal.number(), refusal.position()), (number, position));
+            assert!(ALL.iter().all(|listed| listed.text() != refusal.text()));
+        }
+    }
+}
+
+#[test]
+fn each_has_its_remedy() {
+    for (refusal, number) in ALL.into_iter().zip(1..) {
+        let wanted = match number {
+            2 => Remedy::Wait { position: 0 },
+            22 | 23 | 28 => Remedy::LendMore,
+            _ => Remedy::Reject,
+        };
+        assert_eq!(refusal.remedy(), wanted, "{refusal}");
+    }
+    let far = Refusal::Shortage { position: 1 << 32 };
+    assert_eq!(far.remedy(), Remedy::Wait { position: 1 << 32 });
+    assert_eq!(Refusal::from_number(31, 5).remedy(), Remedy::Reject);
 }
 
 #[test]
@@ -20,8 +100,23 @@ fn a_refusal_is_an_error() {
     let refused: Box<dyn Error> = find_value(&[0], 0, b"key").unwrap_err().into();
     assert_eq!(
         refused.to_string(),
-        "refusal 2: the message is too short, 2 bytes are wanted"
+        "refusal 2: the message does not reach position 2"
     );
     let refused = find_value(&[0, 0], 0, b"key").unwrap_err();
+    assert_eq!(refused, Refusal::NotFound);
     assert_eq!(refused.to_string(), "refusal 29: no pair has the key");
+}
+
+/// Document 01: 00 04 00 01 00 05 is a shortage that no bytes can mend. Until
+/// the position is reached the answer is the same, and then it is 14.
+#[test]
+fn a_shortage_that_is_waited_for() {
+    let whole = b"\x00\x04\x00\x01\x00\x05abcde\x00\x00";
+    let answer = |length: usize| find_value(&whole[..length], 0, b"abcde").unwrap_err();
+    for length in 6..11 {
+        assert_eq!(answer(length), Refusal::Shortage { position: 11 });
+    }
+    assert_eq!(answer(11), Refusal::Shortage { position: 13 });
+    assert_eq!(answer(12), Refusal::Shortage { position: 13 });
+    assert_eq!(answer(13), Refusal::ContextLength);
 }

@@ -1,32 +1,36 @@
 //! Numbers that agree with the right one in their lowest byte or bytes: each
 //! is refused, and none is cut to what its field holds.
 
-use bafirolen::{read_header_auth_tag, write_header_auth_tag, write_header_body, Numbers};
+use bafirolen::{read_header_auth_tag, write_header_auth_tag, write_header_body, Draft, Numbers};
 
 /// Those of document 01's header H.
-const H: Numbers = Numbers {
-    version: 1,
-    message_type: 0x80,
-    suite: 0x0178,
-    content_type: 2,
-    header_iv_length: 12,
-    frame_length: 4_096,
-};
+const H: Numbers = Numbers::version_1(0x0178, 2, 4_096);
 
 /// What writing them with no pair and no key answers: a refusal's number, or
 /// 0. A refusal leaves the output.
 fn answer(numbers: Numbers) -> u32 {
     let mut out = [0xEE; 64];
-    match write_header_body(numbers, &[0; 16], &[], &[], &[], &[], &mut out) {
+    match write_header_body(&Draft::new(numbers, &[0; 16]), &mut out) {
         Ok(length) => {
             assert_eq!((length, out[0]), (34, 1));
             0
         }
         Err(refusal) => {
             assert_eq!(out, [0xEE; 64]);
-            refusal.number
+            refusal.number()
         }
     }
+}
+
+#[test]
+fn numbers_that_a_version_has() {
+    assert_eq!((H.version, H.message_type, H.suite), (1, 0x80, 0x0178));
+    assert_eq!((H.content_type, H.header_iv_length), (2, 12));
+    assert_eq!(H.frame_length, 4_096);
+    let second = Numbers::version_2(0x0478, 1, 0);
+    assert_eq!((second.version, second.message_type), (2, 0));
+    assert_eq!((second.suite, second.content_type), (0x0478, 1));
+    assert_eq!((second.header_iv_length, second.frame_length), (0, 0));
 }
 
 #[test]
@@ -48,8 +52,8 @@ fn numbers_of_a_body() {
 fn the_suite_of_a_record() {
     let mut out = [0xEE; 64];
     let written = write_header_auth_tag(0x1_0178, &[1; 12], &[2; 16], &mut out);
-    assert_eq!(written.unwrap_err().number, 6);
+    assert_eq!(written.unwrap_err().number(), 6);
     assert_eq!(out, [0xEE; 64]);
     let read = read_header_auth_tag(&out, 0, 0x1_0178);
-    assert_eq!(read.unwrap_err().number, 6);
+    assert_eq!(read.unwrap_err().number(), 6);
 }

@@ -8,7 +8,7 @@ pub fn as_expected<T>(seed: u64, answer: &Answer<T>, expected: Expected) {
     let refusal = answer.as_ref().err();
     expected.assert_met(
         seed,
-        refusal.map(|refusal| (refusal.number, refusal.position)),
+        refusal.map(|refusal| (refusal.number(), refusal.position())),
     );
 }
 

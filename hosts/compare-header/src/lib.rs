@@ -8,6 +8,7 @@
 pub mod expected;
 pub mod guarded;
 pub mod numbers;
+mod parts;
 pub mod reads;
 pub mod scale;
 pub mod writes;

@@ -1,13 +1,93 @@
-//! The answers of the separate implementation in the types of ours.
+//! Answers that own what they say, so that ours and those of the separate
+//! implementation can be held against each other once nothing is lent.
 
-use bafirolen::{AuthRecord, Body, Mode, Numbers, Place, Refusal, Section, Which};
+use bafirolen::{Context, KeySection, Mode, Numbers, Place, Refusal, Which};
 
-/// An answer of ours.
+/// An answer: what was accepted, or the refusal.
 pub type Answer<T> = Result<T, Refusal>;
+
+/// A section that was read.
+#[derive(Clone, Copy, Debug, PartialEq, Eq)]
+pub struct Section {
+    pub count: usize,
+    pub tail: u64,
+}
+
+/// A body that was read.
+#[derive(Clone, Copy, Debug, PartialEq, Eq)]
+pub struct Body {
+    pub numbers: Numbers,
+    pub message_id: Place,
+    pub pair_count: usize,
+    pub key_count: usize,
+    pub suite_data: Place,
+    pub context_start: u64,
+    pub tail: u64,
+}
+
+/// An authentication record that was read.
+#[derive(Clone, Copy, Debug, PartialEq, Eq)]
+pub struct AuthRecord {
+    pub iv: [u8; 12],
+    pub tag: [u8; 16],
+    pub tail: u64,
+}
 
 /// The refusal's number, 0 where there is none.
 pub fn number<T>(answer: &Answer<T>) -> u32 {
-    answer.as_ref().err().map_or(0, |refusal| refusal.number)
+    answer.as_ref().err().map_or(0, Refusal::number)
+}
+
+/// An answer of ours.
+pub trait Ours {
+    type Owned;
+    fn owned(&self) -> Self::Owned;
+}
+
+impl Ours for Context<'_, '_> {
+    type Owned = Section;
+    fn owned(&self) -> Section {
+        Section {
+            count: self.pairs().len(),
+            tail: self.tail,
+        }
+    }
+}
+
+impl Ours for KeySection<'_, '_> {
+    type Owned = Section;
+    fn owned(&self) -> Section {
+        Section {
+            count: self.keys().len(),
+            tail: self.tail,
+        }
+    }
+}
+
+impl Ours for bafirolen::Body<'_, '_> {
+    type Owned = Body;
+    fn owned(&self) -> Body {
+        Body {
+            numbers: self.numbers,
+            message_id: self.message_id_place(),
+            pair_count: self.pairs().len(),
+            key_count: self.keys().len(),
+            suite_data: self.suite_data_place(),
+            context_start: self.context_start(),
+            tail: self.tail,
+        }
+    }
+}
+
+impl Ours for bafirolen::AuthRecord {
+    type Owned = AuthRecord;
+    fn owned(&self) -> AuthRecord {
+        AuthRecord {
+            iv: self.iv,
+            tag: self.tag,
+            tail: self.tail,
+        }
+    }
 }
 
 pub fn mode(mode: Mode) -> reference::Mode {
@@ -26,14 +106,14 @@ pub fn which(which: Which) -> reference::Which {
 }
 
 pub fn numbers(theirs: &reference::Numbers) -> Numbers {
-    Numbers {
-        version: theirs.version,
-        message_type: theirs.message_type,
-        suite: theirs.suite,
-        content_type: theirs.content_type,
-        header_iv_length: theirs.iv_length,
-        frame_length: theirs.frame_length,
-    }
+    let mut ours = Numbers::default();
+    ours.version = theirs.version;
+    ours.message_type = theirs.message_type;
+    ours.suite = theirs.suite;
+    ours.content_type = theirs.content_type;
+    ours.header_iv_length = theirs.iv_length;
+    ours.frame_length = theirs.frame_length;
+    ours
 }
 
 pub fn their_numbers(ours: Numbers) -> reference::Numbers {
@@ -47,11 +127,9 @@ pub fn their_numbers(ours: Numbers) -> reference::Numbers {
     }
 }
 
+/// Number and position are both kept.
 pub fn refused(refusal: reference::Refusal) -> Refusal {
-    Refusal {
-        number: refusal.number,
-        position: refusal.position,
-    }
+    Refusal::from_number(refusal.number, refusal.position)
 }
 
 pub fn place(place: reference::Place) -> Place {
@@ -83,6 +161,7 @@ pub fn body(body: reference::Body) -> Body {
         pair_count: body.pairs as usize,
         key_count: body.keys as usize,
         suite_data: place(body.suite_data),
+        context_start: body.id.end(),
         tail: body.tail,
     }
 }

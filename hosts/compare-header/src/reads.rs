@@ -1,8 +1,10 @@
 //! One request to read, handed to both.
 
 use crate::guarded::Guarded;
-use crate::numbers::{self, auth, body, place, refused, section, Answer};
-use bafirolen::{AuthRecord, Body, Mode, Place, Refusal, Request, Section};
+use crate::numbers::{self, auth, body, place, refused, section};
+use crate::numbers::{Answer, AuthRecord, Body, Ours, Section};
+use crate::parts::{keys_are, pairs_are};
+use bafirolen::{Mode, Place, Refusal, Request};
 use std::fmt::Debug;
 
 /// A message and a start as a failure shows them.
@@ -41,11 +43,17 @@ pub fn read_aad_section(
     table: &[u32],
 ) -> (Answer<Section>, Vec<u32>) {
     let (mut ours, mut theirs) = (Guarded::new(table), table.to_vec());
-    let answer = bafirolen::read_aad_section(message, start, mode, ours.lend());
+    let read = bafirolen::read_aad_section(message, start, mode, ours.lend());
+    let answer = read.as_ref().map(Ours::owned).map_err(Refusal::clone);
     let wanted = reference::read_aad_section(message, start, numbers::mode(mode), &mut theirs)
         .map(|read| section(read.pairs, read.tail))
         .map_err(refused);
     same(&answer, &wanted, (mode, table.len()), message, start);
+    if let Ok(context) = read {
+        let filled = &theirs[..4 * context.pairs().len()];
+        assert!(context.pair_table() == filled, "pair table");
+        pairs_are(message, context.pairs(), filled);
+    }
     ours.assert_holds(&theirs, "pair table");
     (answer, theirs)
 }
@@ -58,11 +66,17 @@ pub fn read_encrypted_data_keys_section(
     table: &[u32],
 ) -> (Answer<Section>, Vec<u32>) {
     let (mut ours, mut theirs) = (Guarded::new(table), table.to_vec());
-    let answer = bafirolen::read_encrypted_data_keys_section(message, start, max, ours.lend());
+    let read = bafirolen::read_encrypted_data_keys_section(message, start, max, ours.lend());
+    let answer = read.as_ref().map(Ours::owned).map_err(Refusal::clone);
     let wanted = reference::read_encrypted_data_keys_section(message, start, max, &mut theirs)
         .map(|read| section(read.keys, read.tail))
         .map_err(refused);
     same(&answer, &wanted, (max, table.len()), message, start);
+    if let Ok(section) = read {
+        let filled = &theirs[..6 * section.keys().len()];
+        assert!(section.key_table() == filled, "key table");
+        keys_are(message, section.keys(), filled);
+    }
     ours.assert_holds(&theirs, "key table");
     (answer, theirs)
 }
@@ -71,6 +85,23 @@ pub fn read_encrypted_data_keys_section(
 pub struct Tables {
     pub pairs: Vec<u32>,
     pub keys: Vec<u32>,
+}
+
+/// The parts that an accepted body gives are those at its places, and those
+/// of the tables.
+fn parts_of(message: &[u8], body: &bafirolen::Body, tables: &Tables) {
+    for (part, place) in [
+        (body.message_id(), body.message_id_place()),
+        (body.suite_data(), body.suite_data_place()),
+    ] {
+        let wanted = place.within(message).map(<[u8]>::as_ptr_range);
+        assert_eq!(Some(part.as_ptr_range()), wanted, "{place:?}");
+    }
+    let pairs = &tables.pairs[..4 * body.pairs().len()];
+    let keys = &tables.keys[..6 * body.keys().len()];
+    assert!(body.pair_table() == pairs && body.key_table() == keys);
+    pairs_are(message, body.pairs(), pairs);
+    keys_are(message, body.keys(), keys);
 }
 
 /// A body: the answer, and both tables afterwards.
@@ -86,8 +117,9 @@ pub fn read_header_body(
         pairs: pairs.to_vec(),
         keys: keys.to_vec(),
     };
-    let answer =
+    let read =
         bafirolen::read_header_body(message, start, request, our_pairs.lend(), our_keys.lend());
+    let answer = read.as_ref().map(Ours::owned).map_err(Refusal::clone);
     let wanted = reference::read_header_body(
         message,
         start,
@@ -101,6 +133,9 @@ pub fn read_header_body(
     .map_err(refused);
     let asked = (request, pairs.len(), keys.len());
     same(&answer, &wanted, asked, message, start);
+    if let Ok(body) = read {
+        parts_of(message, &body, &tables);
+    }
     our_pairs.assert_holds(&tables.pairs, "pair table");
     our_keys.assert_holds(&tables.keys, "key table");
     (answer, tables)
@@ -108,7 +143,8 @@ pub fn read_header_body(
 
 /// An authentication record.
 pub fn read_header_auth_tag(message: &[u8], start: u64, suite: u32) -> Answer<AuthRecord> {
-    let answer = bafirolen::read_header_auth_tag(message, start, suite);
+    let read = bafirolen::read_header_auth_tag(message, start, suite);
+    let answer = read.map(|record| record.owned());
     let wanted = reference::read_header_auth_tag(message, start, suite)
         .map(auth)
         .map_err(refused);
@@ -148,10 +184,7 @@ fn copy_value(message: &[u8], start: u64, key: &[u8]) {
         let before: Vec<u8> = (0..room).map(|i| !(i as u8)).collect();
         let wanted = match found {
             Err(refusal) => Err(refusal),
-            Ok(_) if room < value.len() => Err(Refusal {
-                number: 28,
-                position: 0,
-            }),
+            Ok(_) if room < value.len() => Err(Refusal::OutputTooShort),
             Ok(_) => Ok(value.len()),
         };
         let mut after = before.clone();

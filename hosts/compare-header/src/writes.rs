@@ -2,7 +2,7 @@
 
 use crate::guarded::Guarded;
 use crate::numbers::{refused, their_numbers, Answer};
-use bafirolen::{Numbers, Refusal};
+use bafirolen::{Draft, Numbers, Refusal};
 
 /// What a body writer is lent beside the output.
 #[derive(Clone, Copy, Debug)]
@@ -13,6 +13,14 @@ pub struct BodyLent<'a> {
     pub text: &'a [u8],
     pub pairs: &'a [u32],
     pub keys: &'a [u32],
+}
+
+impl<'a> BodyLent<'a> {
+    fn draft(&self) -> Draft<'a> {
+        Draft::new(self.numbers, self.message_id)
+            .with_suite_data(self.suite_data)
+            .with_tables(self.text, self.pairs, self.keys)
+    }
 }
 
 /// The answers, and the outputs afterwards; gives ours, and the output.
@@ -86,17 +94,7 @@ pub fn write_header_body(lent: BodyLent, out: &[u8]) -> (Answer<usize>, Vec<u8>)
     both(
         out,
         || format!("{lent:02X?}"),
-        |out| {
-            bafirolen::write_header_body(
-                lent.numbers,
-                lent.message_id,
-                lent.suite_data,
-                lent.text,
-                lent.pairs,
-                lent.keys,
-                out,
-            )
-        },
+        |out| bafirolen::write_header_body(&lent.draft(), out),
         |out| {
             reference::write_header_body(
                 &their_numbers(lent.numbers),

@@ -15,8 +15,10 @@ const REQUESTS: [Request; 6] = [
 ];
 
 const fn request(which: Which, mode: Mode) -> Request {
-    let max = None;
-    Request { which, mode, max }
+    let mut request = Request::new();
+    request.which = which;
+    request.mode = mode;
+    request
 }
 
 /// All readers on one message and start; answers how many there were.

@@ -1,8 +1,8 @@
 //! The cases of document 01, with the answers it gives: the unmarked ones,
 //! and the marked ones beside them.
 
-use bafirolen::{Mode, Request, Section, Which};
-use compare_header::numbers::Answer;
+use bafirolen::{Mode, Request, Which};
+use compare_header::numbers::{Answer, Section};
 use compare_header::{compared, reads, writes};
 use generator::headers::{header_h, header_h_refused, header_h_with, hex};
 
@@ -12,7 +12,7 @@ type Row = Result<(usize, u64), (u32, u64)>;
 fn row(answer: Answer<Section>) -> Row {
     answer
         .map(|read| (read.count, read.tail))
-        .map_err(|refusal| (refusal.number, refusal.position))
+        .map_err(|refusal| (refusal.number(), refusal.position()))
 }
 
 #[test]
@@ -65,7 +65,7 @@ fn pairs_of_65_533_and_65_534_bytes() {
     assert_eq!(answer, Ok(65_537));
     assert!(written[..65_537] == long);
     let (answer, _) = writes::write_aad_section(&text, &[0, 0, 0, 65_530], &out);
-    assert_eq!(answer.map_err(|refusal| refusal.number), Err(13));
+    assert_eq!(answer.map_err(|refusal| refusal.number()), Err(13));
     compared(count + 2, "pairs of 65,533 and 65,534 bytes");
 }
 
@@ -113,12 +113,9 @@ fn frame_lengths() {
         let mut message = header_h();
         message[at] = byte;
         for (which, wanted) in [(Which::Either, Some(20)), (Which::V1Only, None)] {
-            let request = Request {
-                which,
-                ..Request::default()
-            };
+            let request = Request::default().only(which);
             let (answer, _) = reads::read_header_body(&message, 0, request, &[7; 4], &[7; 6]);
-            assert_eq!(answer.err().map(|refusal| refusal.number), wanted);
+            assert_eq!(answer.err().map(|refusal| refusal.number()), wanted);
             count += 1;
         }
     }
@@ -140,6 +137,6 @@ fn authentication_records() {
     assert_eq!(answer, Ok(16));
     assert_eq!((&out[..16], out[16]), (tag, 9));
     let (answer, _) = writes::write_header_auth_tag(0x0578, &[], tag, &[9; 17]);
-    assert_eq!(answer.map_err(|refusal| refusal.number), Err(19));
+    assert_eq!(answer.map_err(|refusal| refusal.number()), Err(19));
     compared(4, "authentication records of document 01");
 }

@@ -1,6 +1,6 @@
 //! Messages at the greatest length and one byte above it.
 
-use bafirolen::{Mode, Request, Which};
+use bafirolen::{Mode, Request};
 use compare_header::numbers::number;
 use compare_header::{compared, reads};
 use generator::headers::header_h_at_four_gibibytes;
@@ -9,11 +9,7 @@ const GREATEST: usize = u32::MAX as usize;
 
 /// Every reader on one message and start; answers their numbers.
 fn every_reader(message: &[u8], start: u64) -> [u32; 6] {
-    let request = Request {
-        which: Which::Either,
-        mode: Mode::Strict,
-        max: Some(1),
-    };
+    let request = Request::default().strict().at_most(1);
     [
         number(&reads::read_aad_section(message, start, Mode::Tolerant, &[7; 4]).0),
         number(&reads::read_encrypted_data_keys_section(message, start, None, &[7; 6]).0),

@@ -95,17 +95,22 @@ fn operation(request: Request) -> &'static str {
     }
 }
 
+fn request(which: Which, mode: Mode, max: Option<u64>) -> Request {
+    let mut request = Request::default();
+    request.which = which;
+    request.mode = mode;
+    request.max = max;
+    request
+}
+
 /// The request that the case expects an answer to.
 fn asked(case: &BodyCase) -> Request {
-    Request {
-        which: match case.reader {
-            Reader::Either => Which::Either,
-            Reader::V1 => Which::V1Only,
-            Reader::V2 => Which::V2Only,
-        },
-        mode: mode(case.strict),
-        max: case.max,
-    }
+    let which = match case.reader {
+        Reader::Either => Which::Either,
+        Reader::V1 => Which::V1Only,
+        Reader::V2 => Which::V2Only,
+    };
+    request(which, mode(case.strict), case.max)
 }
 
 /// Every reader in both modes on each message.
@@ -116,8 +121,7 @@ fn bodies() {
     for seed in seeds(800_000) {
         let case = body_case(seed);
         for (which, mode) in READERS.into_iter().flat_map(|w| MODES.map(|m| (w, m))) {
-            let max = case.max;
-            let request = Request { which, mode, max };
+            let request = request(which, mode, case.max);
             body(seed, &case, request, &mut coverage);
             count += 1;
         }

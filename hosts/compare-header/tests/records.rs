@@ -3,7 +3,6 @@
 
 use bafirolen_sys::*;
 use compare_header::compared;
-use compare_header::numbers::numbers;
 use compare_header::scale::seeds;
 use generator::auth_cases::auth_case;
 use generator::body_cases::body_case;
@@ -140,6 +139,17 @@ fn keys_and_authentication_records() {
         count += 2;
     }
     compared(count, "records of key sections and authentication");
+}
+
+fn numbers(theirs: &reference::Numbers) -> BafirolenNumbers {
+    BafirolenNumbers {
+        version: theirs.version,
+        message_type: theirs.message_type,
+        suite: theirs.suite,
+        content_type: theirs.content_type,
+        header_iv_length: theirs.iv_length,
+        frame_length: theirs.frame_length,
+    }
 }
 
 /// The record of a body that was read or refused.

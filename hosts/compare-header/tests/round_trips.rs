@@ -1,6 +1,6 @@
 //! What is written is read again, and what is read is written again.
 
-use bafirolen::{Mode, Numbers, Request, Which};
+use bafirolen::{Numbers, Request, Which};
 use compare_header::expected::parts_are;
 use compare_header::numbers::numbers;
 use compare_header::scale::seeds;
@@ -22,16 +22,12 @@ fn requests(version: u32) -> [Request; 4] {
     } else {
         Which::V2Only
     };
-    let request = |which, mode| Request {
-        which,
-        mode,
-        max: None,
-    };
+    let request = Request::default();
     [
-        request(Which::Either, Mode::Tolerant),
-        request(Which::Either, Mode::Strict),
-        request(only, Mode::Tolerant),
-        request(only, Mode::Strict),
+        request,
+        request.strict(),
+        request.only(only),
+        request.only(only).strict(),
     ]
 }
 

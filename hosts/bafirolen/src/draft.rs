@@ -1,0 +1,148 @@
+//! What a body is written from.
+
+use crate::{IV_LENGTH, MESSAGE_TYPE};
+use bafirolen_sys::BafirolenNumbers;
+
+/// The fields of a body that are numbers, as the reader gives them and the
+/// writer takes them. Each has 32 bits, so that one that its field can't hold
+/// is refused and never cut: 257 is no version.
+#[derive(Clone, Copy, Debug, Default, PartialEq, Eq, Hash)]
+#[non_exhaustive]
+#[must_use]
+pub struct Numbers {
+    /// 1 or 2.
+    pub version: u32,
+    /// [`MESSAGE_TYPE`] in version 1, 0 in version 2.
+    pub message_type: u32,
+    /// The algorithm suite.
+    pub suite: u32,
+    /// [`CONTENT_TYPE_NON_FRAMED`](crate::CONTENT_TYPE_NON_FRAMED) or
+    /// [`CONTENT_TYPE_FRAMED`](crate::CONTENT_TYPE_FRAMED).
+    pub content_type: u32,
+    /// [`IV_LENGTH`] in version 1, 0 in version 2.
+    pub header_iv_length: u32,
+    /// Above 0 if the content is framed, else 0.
+    pub frame_length: u32,
+}
+
+impl Numbers {
+    /// Those of a header of version 1, with its type and IV length.
+    #[inline]
+    pub const fn version_1(suite: u32, content_type: u32, frame_length: u32) -> Numbers {
+        Numbers {
+            version: 1,
+            message_type: MESSAGE_TYPE,
+            suite,
+            content_type,
+            header_iv_length: IV_LENGTH as u32,
+            frame_length,
+        }
+    }
+
+    /// Those of a header of version 2, which has no type and stores no IV
+    /// length.
+    #[inline]
+    pub const fn version_2(suite: u32, content_type: u32, frame_length: u32) -> Numbers {
+        Numbers {
+            version: 2,
+            message_type: 0,
+            suite,
+            content_type,
+            header_iv_length: 0,
+            frame_length,
+        }
+    }
+
+    #[inline]
+    pub(crate) fn of_record(record: BafirolenNumbers) -> Numbers {
+        Numbers {
+            version: record.version,
+            message_type: record.message_type,
+            suite: record.suite,
+            content_type: record.content_type,
+            header_iv_length: record.header_iv_length,
+            frame_length: record.frame_length,
+        }
+    }
+
+    #[inline]
+    pub(crate) fn record(self) -> BafirolenNumbers {
+        BafirolenNumbers {
+            version: self.version,
+            message_type: self.message_type,
+            suite: self.suite,
+            content_type: self.content_type,
+            header_iv_length: self.header_iv_length,
+            frame_length: self.frame_length,
+        }
+    }
+}
+
+/// What a body is written from. By default all of it is empty or 0, which the
+/// writer refuses.
+///
+/// ```
+/// use bafirolen::{Draft, Numbers, CONTENT_TYPE_NON_FRAMED};
+///
+/// // Version 2, without pairs and keys.
+/// let numbers = Numbers::version_2(0x0478, CONTENT_TYPE_NON_FRAMED, 0);
+/// let draft = Draft::new(numbers, &[7; 32]).with_suite_data(&[8; 32]);
+/// let mut out = [0; 100];
+/// assert_eq!(bafirolen::write_header_body(&draft, &mut out), Ok(76));
+/// ```
+#[derive(Clone, Copy, Debug, Default, PartialEq, Eq, Hash)]
+#[non_exhaustive]
+#[must_use]
+pub struct Draft<'a> {
+    /// The fields that are numbers.
+    pub numbers: Numbers,
+    /// The message ID: 16 bytes in version 1, 32 in version 2.
+    pub message_id: &'a [u8],
+    /// The suite data: none in version 1, 32 bytes in version 2.
+    pub suite_data: &'a [u8],
+    /// What the places of both tables lie in. A message that was read is the
+    /// text for the tables that were filled from it.
+    pub text: &'a [u8],
+    /// The pairs of the context, four numbers each: key start, key length,
+    /// value start, value length.
+    pub pairs: &'a [u32],
+    /// The encrypted data keys, six numbers each: start and length of the
+    /// provider ID, of the provider info and of the ciphertext.
+    pub keys: &'a [u32],
+}
+
+impl<'a> Draft<'a> {
+    /// A draft without suite data, pairs and keys.
+    #[inline]
+    pub const fn new(numbers: Numbers, message_id: &'a [u8]) -> Draft<'a> {
+        Draft {
+            numbers,
+            message_id,
+            suite_data: &[],
+            text: &[],
+            pairs: &[],
+            keys: &[],
+        }
+    }
+
+    /// The same draft, with these suite data.
+    #[inline]
+    pub const fn with_suite_data(mut self, suite_data: &'a [u8]) -> Draft<'a> {
+        self.suite_data = suite_data;
+        self
+    }
+
+    /// The same draft, with the pairs and keys at these places in the text.
+    #[inline]
+    pub const fn with_tables(
+        mut self,
+        text: &'a [u8],
+        pairs: &'a [u32],
+        keys: &'a [u32],
+    ) -> Draft<'a> {
+        self.text = text;
+        self.pairs = pairs;
+        self.keys = keys;
+        self
+    }
+}
