@@ -13,13 +13,16 @@ pub struct Body<'m, 't> {
     /// Its fields that are numbers. Type and IV length are 0 in version 2,
     /// which lacks them.
     pub numbers: Numbers,
-    /// The place of the next byte behind the body.
+    /// The place of the next byte behind the body, where its authentication
+    /// record begins.
     pub tail: u64,
     message: &'m [u8],
     message_id: Place,
     suite_data: Place,
     pairs: &'t [u32],
+    pair_count: u64,
     keys: &'t [u32],
+    key_count: u64,
 }
 
 impl<'m, 't> Body<'m, 't> {
@@ -64,13 +67,13 @@ impl<'m, 't> Body<'m, 't> {
     /// The pairs of the context in their order.
     #[inline]
     pub fn pairs(&self) -> Pairs<'m, 't> {
-        Pairs::new(self.message, self.pairs)
+        Pairs::new(self.message, self.pair_table())
     }
 
     /// The encrypted data keys in their order.
     #[inline]
     pub fn keys(&self) -> Keys<'m, 't> {
-        Keys::new(self.message, self.keys)
+        Keys::new(self.message, self.key_table())
     }
 
     /// What was filled of the pair table: [`NUMBERS_PER_PAIR`] numbers a
@@ -78,7 +81,7 @@ impl<'m, 't> Body<'m, 't> {
     #[inline]
     #[must_use]
     pub fn pair_table(&self) -> &'t [u32] {
-        self.pairs
+        &self.pairs[..NUMBERS_PER_PAIR * self.pair_count as usize]
     }
 
     /// What was filled of the key table: [`NUMBERS_PER_KEY`] numbers a key. A
@@ -86,7 +89,7 @@ impl<'m, 't> Body<'m, 't> {
     #[inline]
     #[must_use]
     pub fn key_table(&self) -> &'t [u32] {
-        self.keys
+        &self.keys[..NUMBERS_PER_KEY * self.key_count as usize]
     }
 }
 
@@ -165,15 +168,11 @@ pub fn read_header_body<'m, 't>(
         numbers: Numbers::of_record(record.numbers),
         tail: record.tail,
         message,
-        message_id: Place {
-            start: record.message_id_start,
-            len: record.message_id_len,
-        },
-        suite_data: Place {
-            start: record.suite_data_start,
-            len: record.suite_data_len,
-        },
-        pairs: &pairs[..NUMBERS_PER_PAIR * record.pair_count as usize],
-        keys: &keys[..NUMBERS_PER_KEY * record.key_count as usize],
+        message_id: Place::new(record.message_id_start, record.message_id_len),
+        suite_data: Place::new(record.suite_data_start, record.suite_data_len),
+        pairs,
+        pair_count: record.pair_count,
+        keys,
+        key_count: record.key_count,
     })
 }

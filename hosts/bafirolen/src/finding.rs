@@ -36,10 +36,7 @@ pub fn find_value(message: &[u8], start: u64, key: &[u8]) -> Result<Place, Refus
         )
     };
     Refusal::test(record.number, record.position)?;
-    Ok(Place {
-        start: record.start,
-        len: record.len,
-    })
+    Ok(Place::new(record.start, record.len))
 }
 
 /// The value that [`find_value`] finds as a part of the message; on any

@@ -30,11 +30,7 @@ pub struct Key<'m> {
 /// The part of a message at the `nth` place of a table's entry.
 #[inline]
 fn part<'m>(message: &'m [u8], entry: &[u32], nth: usize) -> &'m [u8] {
-    let place = Place {
-        start: entry[2 * nth].into(),
-        len: entry[2 * nth + 1].into(),
-    };
-    place.read(message)
+    Place::new(entry[2 * nth].into(), entry[2 * nth + 1].into()).read(message)
 }
 
 /// The pairs of a context in their order.

@@ -10,6 +10,11 @@ pub struct Place {
 }
 
 impl Place {
+    #[inline]
+    pub(crate) fn new(start: u64, len: u64) -> Place {
+        Place { start, len }
+    }
+
     /// The part itself; `None` where it doesn't lie inside `bytes`.
     #[inline]
     #[must_use]

@@ -23,10 +23,11 @@ pub enum Remedy {
     /// long as it has fewer, the answer is the same. If the message is whole
     /// already, it is rejected.
     ///
-    /// With that many bytes the answer may be another refusal. A part of a
-    /// context section may be said to end behind its section; such a shortage
-    /// is mended by no bytes, and once they are there the section is refused
-    /// by 14, or by what else applies first.
+    /// With that many bytes the answer may be another refusal, a further
+    /// shortage among them. A part of a context section may be said to end
+    /// behind its section: no bytes mend such a shortage, and once they are
+    /// there the section is refused by 14, or by what else applies first. And
+    /// a message above 4,294,967,295 bytes is refused by 1.
     Wait {
         /// How many bytes the message would have to have.
         position: u64,

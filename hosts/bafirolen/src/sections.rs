@@ -13,6 +13,7 @@ pub struct Context<'m, 't> {
     pub tail: u64,
     message: &'m [u8],
     table: &'t [u32],
+    count: u64,
 }
 
 /// An accepted section of encrypted data keys.
@@ -24,13 +25,14 @@ pub struct KeySection<'m, 't> {
     pub tail: u64,
     message: &'m [u8],
     table: &'t [u32],
+    count: u64,
 }
 
 impl<'m, 't> Context<'m, 't> {
     /// The pairs in their order.
     #[inline]
     pub fn pairs(&self) -> Pairs<'m, 't> {
-        Pairs::new(self.message, self.table)
+        Pairs::new(self.message, self.pair_table())
     }
 
     /// What was filled of the table: [`NUMBERS_PER_PAIR`] numbers a pair. A
@@ -38,7 +40,7 @@ impl<'m, 't> Context<'m, 't> {
     #[inline]
     #[must_use]
     pub fn pair_table(&self) -> &'t [u32] {
-        self.table
+        &self.table[..NUMBERS_PER_PAIR * self.count as usize]
     }
 }
 
@@ -46,7 +48,7 @@ impl<'m, 't> KeySection<'m, 't> {
     /// The keys in their order.
     #[inline]
     pub fn keys(&self) -> Keys<'m, 't> {
-        Keys::new(self.message, self.table)
+        Keys::new(self.message, self.key_table())
     }
 
     /// What was filled of the table: [`NUMBERS_PER_KEY`] numbers a key. A
@@ -54,7 +56,7 @@ impl<'m, 't> KeySection<'m, 't> {
     #[inline]
     #[must_use]
     pub fn key_table(&self) -> &'t [u32] {
-        self.table
+        &self.table[..NUMBERS_PER_KEY * self.count as usize]
     }
 }
 
@@ -119,7 +121,8 @@ pub fn read_aad_section<'m, 't>(
     Ok(Context {
         tail: record.tail,
         message,
-        table: &pairs[..NUMBERS_PER_PAIR * record.count as usize],
+        table: pairs,
+        count: record.count,
     })
 }
 
@@ -159,6 +162,7 @@ pub fn read_encrypted_data_keys_section<'m, 't>(
     Ok(KeySection {
         tail: record.tail,
         message,
-        table: &keys[..NUMBERS_PER_KEY * record.count as usize],
+        table: keys,
+        count: record.count,
     })
 }
