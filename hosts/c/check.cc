@@ -4,11 +4,10 @@
  * exit status is 1.
  *
  *     rt staticlib bafirolen_c
- *     g++ -std=c++11 -O2 -Wall -Wextra -Wpedantic -Iinclude hosts/c/check.cc target/staticlib/libbafirolen_c.a -o target/check_cc
+ *     g++ -std=c++11 -O2 -Wall -Wextra -Wpedantic -Iinclude hosts/c/check.cc target/staticlib/libbafirolen_c.a -o target/check
  */
 #include "bafirolen.h"
 #include "bafirolen.h"
-#include "standins.h"
 
 #include <iostream>
 #include <map>

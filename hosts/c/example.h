@@ -2,7 +2,7 @@
 #ifndef EXAMPLE_H
 #define EXAMPLE_H
 
-#include "standins.h"
+#include "bafirolen.h"
 
 #include <errno.h>
 #include <inttypes.h>

@@ -10,7 +10,6 @@
 #define _GNU_SOURCE
 #include "calls.h"
 #include "compare.h"
-#include "standins.h"
 
 #include <pthread.h>
 #include <signal.h>

@@ -2,12 +2,12 @@
 //! record would be copied, and the copy measured too.
 
 use crate::answer::told;
-use bafirolen::{Mode, Numbers, Refusal, Request};
+use bafirolen::{Draft, Mode, Numbers, Refusal, Request};
 use generator::fields::Fields;
 use generator::tables::Lent;
 
 fn number(refusal: Refusal) -> u32 {
-    refusal.number
+    refusal.number()
 }
 
 #[inline]
@@ -66,18 +66,18 @@ pub fn read_body(message: &[u8], pairs: &mut [u32], keys: &mut [u32]) -> u64 {
 
 #[inline]
 pub fn write_body(fields: &Fields, lent: &Lent, out: &mut [u8]) -> u64 {
-    let numbers = Numbers {
-        version: fields.version,
-        message_type: fields.message_type,
-        suite: fields.suite,
-        content_type: fields.content_type,
-        header_iv_length: fields.iv_length,
-        frame_length: fields.frame_length,
-    };
-    let (id, data) = (&fields.id, &fields.suite_data);
-    let (text, pairs, keys) = (&lent.text, &lent.pairs, &lent.keys);
+    let mut numbers = Numbers::default();
+    numbers.version = fields.version;
+    numbers.message_type = fields.message_type;
+    numbers.suite = fields.suite;
+    numbers.content_type = fields.content_type;
+    numbers.header_iv_length = fields.iv_length;
+    numbers.frame_length = fields.frame_length;
+    let draft = Draft::new(numbers, &fields.id)
+        .with_suite_data(&fields.suite_data)
+        .with_tables(&lent.text, &lent.pairs, &lent.keys);
     told(
-        bafirolen::write_header_body(numbers, id, data, text, pairs, keys, out)
+        bafirolen::write_header_body(&draft, out)
             .map(|length| length as u64)
             .map_err(number),
     )
