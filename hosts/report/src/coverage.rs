@@ -1,68 +1,7 @@
 //! Counts of each refusal by operation.
 
-use crate::say;
+use crate::{listed, say};
 use std::collections::{BTreeMap, BTreeSet};
-
-/// The refusals each operation lists.
-pub const LISTED: [(&str, &[u32]); 16] = [
-    (
-        "read section tolerant",
-        &[1, 2, 8, 9, 10, 11, 12, 13, 14, 22],
-    ),
-    (
-        "read section strict",
-        &[1, 2, 8, 9, 10, 11, 12, 13, 14, 21, 22],
-    ),
-    ("find", &[1, 2, 8, 9, 10, 11, 12, 13, 14, 29]),
-    ("read keys", &[1, 2, 15, 16, 23]),
-    (
-        "read body tolerant",
-        &[
-            1, 2, 3, 5, 6, 7, 8, 9, 10, 11, 12, 13, 14, 15, 16, 17, 18, 19, 20, 22, 23,
-        ],
-    ),
-    (
-        "read body strict",
-        &[
-            1, 2, 3, 5, 6, 7, 8, 9, 10, 11, 12, 13, 14, 15, 16, 17, 18, 19, 20, 21, 22, 23,
-        ],
-    ),
-    (
-        "read body v1 tolerant",
-        &[
-            1, 2, 3, 4, 5, 6, 7, 8, 9, 10, 11, 12, 13, 14, 15, 16, 17, 18, 19, 22, 23,
-        ],
-    ),
-    (
-        "read body v1 strict",
-        &[
-            1, 2, 3, 4, 5, 6, 7, 8, 9, 10, 11, 12, 13, 14, 15, 16, 17, 18, 19, 21, 22, 23,
-        ],
-    ),
-    (
-        "read body v2 tolerant",
-        &[
-            1, 2, 3, 4, 6, 7, 8, 9, 10, 11, 12, 13, 14, 15, 16, 17, 22, 23,
-        ],
-    ),
-    (
-        "read body v2 strict",
-        &[
-            1, 2, 3, 4, 6, 7, 8, 9, 10, 11, 12, 13, 14, 15, 16, 17, 21, 22, 23,
-        ],
-    ),
-    ("read auth", &[1, 2, 6]),
-    ("write section", &[10, 11, 12, 13, 26, 27, 28]),
-    ("write keys", &[16, 26, 27, 28]),
-    (
-        "write body",
-        &[
-            3, 5, 6, 7, 10, 11, 12, 13, 16, 17, 19, 20, 24, 25, 26, 27, 28,
-        ],
-    ),
-    ("write auth", &[6, 19, 28, 30]),
-    ("write listing", &[28]),
-];
 
 /// Answers counted by operation; column 0 is acceptance.
 #[derive(Default)]
@@ -95,11 +34,7 @@ impl Coverage {
         assert!(!wanted.is_empty(), "no operation is named");
         assert_eq!(answered, wanted, "the operations that answered");
         for (operation, row) in &self.0 {
-            let listed = LISTED
-                .iter()
-                .find(|(name, _)| name == operation)
-                .unwrap_or_else(|| panic!("{operation} has no list"))
-                .1;
+            let listed = listed(operation);
             for (number, &count) in row.iter().enumerate() {
                 let wanted = number == 0 || listed.contains(&(number as u32));
                 assert_eq!(

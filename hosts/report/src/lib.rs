@@ -3,8 +3,10 @@
 #![forbid(unsafe_code)]
 
 mod coverage;
+mod listed;
 
-pub use coverage::{Coverage, LISTED};
+pub use coverage::Coverage;
+pub use listed::{assert_said, listed, LISTED};
 use std::io::Write;
 
 /// A line to the stream itself, since cargo swallows what a passing test

@@ -1,0 +1,85 @@
+//! What each operation can answer, and in which order it tests.
+
+use std::collections::BTreeSet;
+
+/// The refusals that document 01 lists for each operation, in its order of
+/// tests; each stands where it comes first, such as 2, which is tested of each
+/// part in turn.
+pub const LISTED: [(&str, &[u32]); 16] = [
+    (
+        "read section tolerant",
+        &[1, 2, 8, 9, 10, 11, 12, 13, 14, 22],
+    ),
+    (
+        "read section strict",
+        &[1, 2, 8, 21, 9, 10, 11, 12, 13, 14, 22],
+    ),
+    ("find", &[1, 2, 8, 9, 10, 11, 12, 13, 14, 29]),
+    ("read keys", &[1, 2, 15, 16, 23]),
+    (
+        "read body tolerant",
+        &[
+            1, 2, 3, 5, 6, 7, 8, 9, 10, 11, 12, 13, 14, 15, 16, 17, 18, 19, 20, 22, 23,
+        ],
+    ),
+    (
+        "read body strict",
+        &[
+            1, 2, 3, 5, 6, 7, 8, 21, 9, 10, 11, 12, 13, 14, 15, 16, 17, 18, 19, 20, 22, 23,
+        ],
+    ),
+    (
+        "read body v1 tolerant",
+        &[
+            1, 2, 3, 4, 5, 6, 7, 8, 9, 10, 11, 12, 13, 14, 15, 16, 17, 18, 19, 22, 23,
+        ],
+    ),
+    (
+        "read body v1 strict",
+        &[
+            1, 2, 3, 4, 5, 6, 7, 8, 21, 9, 10, 11, 12, 13, 14, 15, 16, 17, 18, 19, 22, 23,
+        ],
+    ),
+    (
+        "read body v2 tolerant",
+        &[
+            1, 2, 3, 4, 6, 7, 8, 9, 10, 11, 12, 13, 14, 15, 16, 17, 22, 23,
+        ],
+    ),
+    (
+        "read body v2 strict",
+        &[
+            1, 2, 3, 4, 6, 7, 8, 21, 9, 10, 11, 12, 13, 14, 15, 16, 17, 22, 23,
+        ],
+    ),
+    ("read auth", &[1, 6, 2]),
+    ("write section", &[26, 27, 10, 11, 12, 13, 28]),
+    ("write keys", &[26, 27, 16, 28]),
+    (
+        "write body",
+        &[
+            3, 5, 6, 7, 24, 26, 27, 10, 11, 12, 13, 16, 17, 19, 25, 20, 28,
+        ],
+    ),
+    ("write auth", &[6, 19, 30, 28]),
+    ("write listing", &[28]),
+];
+
+/// The list of one operation.
+pub fn listed(operation: &str) -> &'static [u32] {
+    let list = LISTED.iter().find(|(name, _)| *name == operation);
+    list.unwrap_or_else(|| panic!("{operation} has no list")).1
+}
+
+/// What is said of a function, which does what some operations do, is what
+/// these list: the same refusals, and those of each operation in its order.
+pub fn assert_said(function: &str, said: &[u32], lists: &[&[u32]]) {
+    let set: BTreeSet<u32> = said.iter().copied().collect();
+    assert_eq!(set.len(), said.len(), "{function}: a number twice");
+    let all: BTreeSet<u32> = lists.iter().copied().flatten().copied().collect();
+    assert_eq!(set, all, "{function}");
+    for list in lists {
+        let order: Vec<u32> = said.iter().copied().filter(|n| list.contains(n)).collect();
+        assert_eq!(order, *list, "{function}: the order");
+    }
+}
