@@ -52,8 +52,8 @@ extern "C" {
 uint32_t bafirolen_version(void);
 
 /*
- * STACK. How many bytes of stack a call may take, what it is called with included; measured on the archive and tried, every
- * function on a thread that had just so many. bafirolen_version takes none of note.
+ * STACK. How many bytes of stack a call may take, measured on the archive and rounded up; hosts/c/stack.c runs every function on a
+ * thread that has just so many left. Nothing proves them. bafirolen_version takes less than BAFIROLEN_STACK_KEYS.
  */
 #define BAFIROLEN_STACK_READ 40960   /* read a context section or a body; find and copy a value */
 #define BAFIROLEN_STACK_KEYS 1024    /* read and write a key section or an authentication record */
@@ -90,7 +90,7 @@ typedef struct BafirolenPlace {
     uint64_t len;
 } BafirolenPlace;
 
-/* An authentication record that was read. 56 bytes. */
+/* An authentication record that was read. 56 bytes, of which the last four are none of its fields: compare it field by field. */
 typedef struct BafirolenAuth {
     uint64_t number;
     uint64_t position;

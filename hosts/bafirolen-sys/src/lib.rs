@@ -7,7 +7,8 @@
 //!
 //! None of the functions has a condition on its numbers. The pointers are the
 //! caller's part: each is aligned and good for its length, counted in
-//! elements, and what is lent to be changed overlaps nothing else that the
+//! elements, where that is not 0 (a part of length 0 takes any pointer, null
+//! included), and what is lent to be changed overlaps nothing else that the
 //! same call is lent. Nothing is kept after a call.
 //!
 //! # Answers

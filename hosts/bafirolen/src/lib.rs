@@ -88,7 +88,12 @@
 //! the message is proved of the operations; with a stale archive, cutting a
 //! part might panic.
 //!
-//! STACK: for what a call needs, see `include/bafirolen.h`.
+//! A call takes stack from what its thread has: up to 40 KiB to read a context
+//! or a body and to find or copy a value, 1 KiB for key sections and
+//! authentication records, 72 KiB for [`header_number`], [`header_position`]
+//! and [`write_listing`], 140 KiB to write a context or a body. These are
+//! figures measured on the archive, which a test holds it to; `include/bafirolen.h`
+//! has them as constants.
 //!
 //! The archive holds x86-64 code for Linux. The crate uses `core` alone, and
 //! needs Rust 1.87 or later.
