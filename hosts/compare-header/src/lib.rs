@@ -5,6 +5,8 @@
 //! tests only make requests.
 #![forbid(unsafe_code)]
 
+pub mod answers;
+pub mod every;
 pub mod expected;
 pub mod guarded;
 pub mod numbers;
@@ -13,4 +15,26 @@ pub mod reads;
 pub mod scale;
 pub mod writes;
 
+use bafirolen::{Mode, Request, Which};
 pub use report::{compared, Coverage};
+
+/// The requests that take a version: tolerant and strict, by the reader of
+/// either version and by that of the version alone.
+pub fn requests(version: u32) -> [Request; 4] {
+    let only = match version {
+        1 => Which::V1Only,
+        _ => Which::V2Only,
+    };
+    [
+        (Which::Either, Mode::Tolerant),
+        (Which::Either, Mode::Strict),
+        (only, Mode::Tolerant),
+        (only, Mode::Strict),
+    ]
+    .map(|(which, mode)| {
+        let mut request = Request::default();
+        request.which = which;
+        request.mode = mode;
+        request
+    })
+}

@@ -5,13 +5,17 @@ use crate::numbers::{self, auth, body, place, refused, section};
 use crate::numbers::{Answer, AuthRecord, Body, Ours, Section};
 use crate::parts::{keys_are, pairs_are};
 use bafirolen::{Mode, Place, Refusal, Request};
-use std::fmt::Debug;
+use std::fmt::{self, Debug, Formatter};
+
+/// The front of what is lent, as a failure shows it: the whole may be long.
+pub(crate) fn few<T>(lent: &[T]) -> &[T] {
+    &lent[..lent.len().min(600)]
+}
 
 /// A message and a start as a failure shows them.
 fn shown(message: &[u8], start: u64) -> String {
-    let first: Vec<String> = message
+    let first: Vec<String> = few(message)
         .iter()
-        .take(600)
         .map(|byte| format!("{byte:02X}"))
         .collect();
     format!(
@@ -19,6 +23,15 @@ fn shown(message: &[u8], start: u64) -> String {
         message.len(),
         first.join(" ")
     )
+}
+
+/// A key that was asked for, as a failure shows it.
+struct Asked<'a>(&'a [u8]);
+
+impl Debug for Asked<'_> {
+    fn fmt(&self, f: &mut Formatter<'_>) -> fmt::Result {
+        write!(f, "{} bytes {:02X?}", self.0.len(), few(self.0))
+    }
 }
 
 fn same<T: PartialEq + Debug>(
@@ -159,12 +172,15 @@ pub fn find_value(message: &[u8], start: u64, key: &[u8]) -> Answer<Place> {
     let wanted = reference::find(message, start, key)
         .map(place)
         .map_err(refused);
-    same(&answer, &wanted, key, message, start);
+    same(&answer, &wanted, Asked(key), message, start);
     let ours = bafirolen::find_part(message, start, key);
     let theirs = reference::find_part(message, start, key);
     assert!(
         ours == theirs && ours.as_ptr() == theirs.as_ptr(),
-        "{key:?}: {ours:?} against {theirs:?}, {}",
+        "{:?}: {:?} against {:?}, {}",
+        Asked(key),
+        few(ours),
+        few(theirs),
         shown(message, start)
     );
     copy_value(message, start, key);
@@ -189,11 +205,12 @@ fn copy_value(message: &[u8], start: u64, key: &[u8]) {
         };
         let mut after = before.clone();
         let answer = bafirolen::copy_value(message, start, key, &mut after);
-        same(&answer, &wanted, key, message, start);
+        same(&answer, &wanted, Asked(key), message, start);
         let copied = wanted.unwrap_or(0);
         assert!(
             after[..copied] == value[..copied] && after[copied..] == before[copied..],
-            "{key:?}: a copy into {room} bytes, {}",
+            "{:?}: a copy into {room} bytes, {}",
+            Asked(key),
             shown(message, start)
         );
     }

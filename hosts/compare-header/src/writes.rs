@@ -2,6 +2,7 @@
 
 use crate::guarded::Guarded;
 use crate::numbers::{refused, their_numbers, Answer};
+use crate::reads::few;
 use bafirolen::{Draft, Numbers, Refusal};
 
 /// What a body writer is lent beside the output.
@@ -20,6 +21,18 @@ impl<'a> BodyLent<'a> {
         Draft::new(self.numbers, self.message_id)
             .with_suite_data(self.suite_data)
             .with_tables(self.text, self.pairs, self.keys)
+    }
+
+    /// The fronts of what is lent, as a failure shows them.
+    fn shown(&self) -> Self {
+        BodyLent {
+            numbers: self.numbers,
+            message_id: few(self.message_id),
+            suite_data: few(self.suite_data),
+            text: few(self.text),
+            pairs: few(self.pairs),
+            keys: few(self.keys),
+        }
     }
 }
 
@@ -48,7 +61,7 @@ fn both(
 pub fn write_aad_section(text: &[u8], pairs: &[u32], out: &[u8]) -> (Answer<usize>, Vec<u8>) {
     both(
         out,
-        || format!("pairs {pairs:?} of {text:02X?}"),
+        || format!("pairs {:?} of {:02X?}", few(pairs), few(text)),
         |out| bafirolen::write_aad_section(text, pairs, out),
         |out| reference::write_aad_section(text, pairs, out),
     )
@@ -61,7 +74,7 @@ pub fn write_encrypted_data_keys_section(
 ) -> (Answer<usize>, Vec<u8>) {
     both(
         out,
-        || format!("keys {keys:?} of {text:02X?}"),
+        || format!("keys {:?} of {:02X?}", few(keys), few(text)),
         |out| bafirolen::write_encrypted_data_keys_section(text, keys, out),
         |out| reference::write_encrypted_data_keys_section(text, keys, out),
     )
@@ -75,7 +88,13 @@ pub fn write_header_auth_tag(
 ) -> (Answer<usize>, Vec<u8>) {
     both(
         out,
-        || format!("suite {suite:04X}, IV {iv:02X?}, tag {tag:02X?}"),
+        || {
+            format!(
+                "suite {suite:04X}, IV {:02X?}, tag {:02X?}",
+                few(iv),
+                few(tag)
+            )
+        },
         |out| bafirolen::write_header_auth_tag(suite, iv, tag, out),
         |out| reference::write_header_auth_tag(suite, iv, tag, out),
     )
@@ -84,7 +103,7 @@ pub fn write_header_auth_tag(
 pub fn write_listing(message: &[u8], out: &[u8]) -> (Answer<usize>, Vec<u8>) {
     both(
         out,
-        || format!("{message:02X?}"),
+        || format!("{:02X?}", few(message)),
         |out| bafirolen::write_listing(message, out),
         |out| reference::write_listing(message, out),
     )
@@ -93,7 +112,7 @@ pub fn write_listing(message: &[u8], out: &[u8]) -> (Answer<usize>, Vec<u8>) {
 pub fn write_header_body(lent: BodyLent, out: &[u8]) -> (Answer<usize>, Vec<u8>) {
     both(
         out,
-        || format!("{lent:02X?}"),
+        || format!("{:02X?}", lent.shown()),
         |out| bafirolen::write_header_body(&lent.draft(), out),
         |out| {
             reference::write_header_body(

@@ -12,6 +12,8 @@ pub mod fields;
 pub mod headers;
 pub mod image;
 pub mod key_cases;
+pub mod large;
+pub mod lines;
 pub mod many;
 pub mod random;
 pub mod section_cases;

@@ -1,0 +1,131 @@
+//! Pairs or keys handed to every operation that takes them.
+
+use crate::answers::Answers;
+use crate::expected::parts_are;
+use crate::numbers::{numbers, Answer};
+use crate::writes::{self, BodyLent};
+use crate::{reads, requests};
+use bafirolen::Mode;
+use generator::fields::{back, front, Fields};
+use generator::image::{self, pairs_length, section_with, Form, Image};
+use generator::large::plain;
+use generator::random::Random;
+use generator::tables::{lend, Lent};
+use generator::{Key, Pair};
+
+/// The answers of one call of `pairs` without its finds, and of `keys`.
+pub const USES_OF_PAIRS: u64 = 2 + 1 + 2 * 5;
+pub const USES_OF_KEYS: u64 = 1 + 1 + 2 * 5;
+
+/// Writes fields whose pairs and keys are lent by tables.
+pub fn write_body(fields: &Fields, lent: &Lent, out: &[u8]) -> (Answer<usize>, Vec<u8>) {
+    let lent = BodyLent {
+        numbers: numbers(&fields.numbers().into()),
+        message_id: &fields.id,
+        suite_data: &fields.suite_data,
+        text: &lent.text,
+        pairs: &lent.pairs,
+        keys: &lent.keys,
+    };
+    writes::write_header_body(lent, out)
+}
+
+/// A section of pairs; the stored length is the greatest where none is right.
+pub fn section_of(pairs: &[Pair]) -> Image {
+    let length = (2 + pairs_length(pairs)).min(65_535) as u16;
+    match pairs.is_empty() {
+        true => image::section(pairs, Form::Today),
+        false => section_with(pairs, length, pairs.len() as u16),
+    }
+}
+
+/// A body of fields around these pairs.
+fn body_of(fields: &Fields) -> Vec<u8> {
+    let mut image = front(fields);
+    image.image(&section_of(&fields.pairs));
+    image.image(&image::keys(&fields.keys));
+    image.image(&back(fields, [0; 4]));
+    image.bytes
+}
+
+fn parts_of_pairs(pairs: &[Pair]) -> impl Iterator<Item = &[u8]> {
+    pairs.iter().flat_map(|(key, value)| [&key[..], value])
+}
+
+fn parts_of_keys(keys: &[Key]) -> impl Iterator<Item = &[u8]> {
+    keys.iter().flatten().map(|part| &part[..])
+}
+
+/// Bodies of both versions, read by every reader of the version and written;
+/// each answers `wanted`.
+fn bodies(random: &mut Random, answers: &mut Answers, pairs: &[Pair], keys: &[Key], wanted: u32) {
+    for version in [1, 2] {
+        let mut fields = plain(version);
+        fields.pairs = pairs.to_vec();
+        fields.keys = keys.to_vec();
+        let image = body_of(&fields);
+        let (pair_table, key_table) = (vec![3; 4 * pairs.len()], vec![5; 6 * keys.len()]);
+        for request in requests(version) {
+            let (answer, tables) =
+                reads::read_header_body(&image, 0, request, &pair_table, &key_table);
+            answers.met(&answer, wanted);
+            if wanted == 0 {
+                parts_are(0, &image, &tables.pairs, parts_of_pairs(pairs));
+                parts_are(0, &image, &tables.keys, parts_of_keys(keys));
+            }
+        }
+        let lent = lend(random, pairs, keys);
+        let (answer, out) = write_body(&fields, &lent, &vec![0; image.len()]);
+        answers.met(&answer, wanted);
+        assert!(wanted != 0 || out == image, "the image of the body");
+    }
+}
+
+/// The section and bodies of pairs, read and written: each answers `wanted`.
+pub fn pairs(random: &mut Random, answers: &mut Answers, pairs: &[Pair], wanted: u32) {
+    let image = section_of(pairs).bytes;
+    let table = vec![3; 4 * pairs.len()];
+    for mode in [Mode::Tolerant, Mode::Strict] {
+        let (answer, table) = reads::read_aad_section(&image, 0, mode, &table);
+        answers.met(&answer, wanted);
+        if wanted == 0 {
+            parts_are(0, &image, &table, parts_of_pairs(pairs));
+        }
+    }
+    let lent = lend(random, pairs, &[]);
+    let out = vec![0; image.len()];
+    let (answer, out) = writes::write_aad_section(&lent.text, &lent.pairs, &out);
+    answers.met(&answer, wanted);
+    assert!(wanted != 0 || out == image, "the image of the section");
+    bodies(random, answers, pairs, &[], wanted);
+}
+
+/// Finds in the section of pairs: each answers `wanted`, and if that is 0 the
+/// value of the pair that has the key.
+pub fn find(answers: &mut Answers, pairs: &[Pair], key: &[u8], wanted: u32) {
+    let image = section_of(pairs).bytes;
+    answers.met(&reads::find_value(&image, 0, key), wanted);
+    if wanted == 0 {
+        let pair = pairs.iter().find(|pair| pair.0 == key);
+        let (_, value) = pair.expect("a pair with the key");
+        assert!(reference::find_part(&image, 0, key) == value, "the value");
+    }
+}
+
+/// The section and bodies of keys, read and written: each answers `wanted`.
+pub fn keys(random: &mut Random, answers: &mut Answers, keys: &[Key], wanted: u32) {
+    let image = image::keys(keys).bytes;
+    let table = vec![5; 6 * keys.len()];
+    let max = Some(keys.len() as u64);
+    let (answer, table) = reads::read_encrypted_data_keys_section(&image, 0, max, &table);
+    answers.met(&answer, wanted);
+    if wanted == 0 {
+        parts_are(0, &image, &table, parts_of_keys(keys));
+    }
+    let lent = lend(random, &[], keys);
+    let out = vec![0; image.len()];
+    let (answer, out) = writes::write_encrypted_data_keys_section(&lent.text, &lent.keys, &out);
+    answers.met(&answer, wanted);
+    assert!(wanted != 0 || out == image, "the image of the section");
+    bodies(random, answers, &[], keys, wanted);
+}

@@ -1,0 +1,128 @@
+//! Places whose start and length are each 32-bit numbers and whose sum is not:
+//! cut to 32 bits it would lie inside the text. Each is outside (26).
+
+use compare_header::answers::Answers;
+use compare_header::every::write_body;
+use compare_header::writes;
+use generator::large::plain;
+use generator::tables::Lent;
+
+/// The text's length in most of the requests.
+const TEXT: u32 = 300;
+
+/// Start and length; each sum is 2^32 or up to `TEXT` above it.
+const WRAPPING: [(u32, u32); 14] = [
+    (0xFFFF_FFFF, 1),
+    (0xFFFF_FFFF, 2),
+    (0xFFFF_FFFF, TEXT + 1),
+    (0xFFFF_FFF0, 0x10),
+    (0xFFFF_FFF0, 0x11),
+    (0xFFFF_FF00, 0x100 + TEXT),
+    (0xFFFF_0001, 0xFFFF),
+    (0x8000_0000, 0x8000_0000),
+    (0x8000_0000, 0x8000_0005),
+    (0x7FFF_FFFF, 0x8000_0001),
+    (1, 0xFFFF_FFFF),
+    (2, 0xFFFF_FFFF),
+    (100, 0xFFFF_FF9C),
+    (TEXT, 0xFFFF_FFFF),
+];
+
+/// Three pairs and two keys, six places each, in a text of `TEXT` bytes.
+fn lent() -> Lent {
+    Lent {
+        text: vec![b'a'; TEXT as usize],
+        pairs: vec![0, 1, 5, 9, 0, 2, 300, 0, 7, 3, 200, 100],
+        keys: vec![0, 4, 0, 300, 299, 1, 8, 8, 300, 0, 0, 0],
+    }
+}
+
+/// The writers of the lent pairs and keys into outputs without room and with
+/// plenty: a writer of one section only where its table holds the fault.
+fn write(answers: &mut Answers, lent: &Lent, wanted: [u32; 4]) {
+    let [pairs, keys, body, short] = wanted;
+    for room in [0, 2_000] {
+        let out = vec![0x11; room];
+        let refused = |number: u32| {
+            if number == 0 && room == 0 {
+                short
+            } else {
+                number
+            }
+        };
+        let (answer, _) = writes::write_aad_section(&lent.text, &lent.pairs, &out);
+        answers.met(&answer, refused(pairs));
+        let (answer, _) = writes::write_encrypted_data_keys_section(&lent.text, &lent.keys, &out);
+        answers.met(&answer, refused(keys));
+        for version in [1, 2] {
+            let (answer, _) = write_body(&plain(version), lent, &out);
+            answers.met(&answer, refused(body));
+        }
+    }
+}
+
+#[test]
+fn every_place_of_every_writer() {
+    let mut answers = Answers::default();
+    write(&mut answers, &lent(), [0, 0, 0, 28]);
+    answers.assert_are("writes of places inside", &[(0, 4), (28, 4)]);
+    let mut answers = Answers::default();
+    for (start, length) in WRAPPING {
+        let sum = u64::from(start) + u64::from(length);
+        assert!(sum >= 1 << 32 && sum <= (1 << 32) + u64::from(TEXT));
+        for place in 0..6 {
+            let mut lent = lent();
+            lent.pairs[2 * place..2 * place + 2].copy_from_slice(&[start, length]);
+            write(&mut answers, &lent, [26, 0, 26, 28]);
+            let mut lent = self::lent();
+            lent.keys[2 * place..2 * place + 2].copy_from_slice(&[start, length]);
+            write(&mut answers, &lent, [0, 26, 26, 28]);
+        }
+    }
+    let requests = 2 * 6 * WRAPPING.len() as u64;
+    let wanted = [(0, 1), (26, 6), (28, 1)].map(|(number, each)| (number, each * requests));
+    answers.assert_are("writes of places whose sum wraps", &wanted);
+}
+
+/// No byte is lent, and the sum cut to 32 bits is 0.
+#[test]
+fn in_an_empty_text() {
+    let mut answers = Answers::default();
+    let empty = WRAPPING
+        .into_iter()
+        .filter(|&(start, length)| start.wrapping_add(length) == 0);
+    let mut requests = 0;
+    for (start, length) in empty {
+        let lent = Lent {
+            text: Vec::new(),
+            pairs: vec![0, 0, start, length],
+            keys: vec![0, 0, 0, 0, start, length],
+        };
+        write(&mut answers, &lent, [26, 26, 26, 28]);
+        requests += 1;
+    }
+    assert_eq!(requests, 7);
+    answers.assert_are("writes of places in an empty text", &[(26, 8 * requests)]);
+}
+
+/// A fault that comes later, 27 or 10, is not reached; nor is a short table.
+#[test]
+fn with_a_later_fault() {
+    let mut answers = Answers::default();
+    for (start, length) in WRAPPING {
+        let mut lent = lent();
+        lent.text[0] = 0xFF;
+        lent.pairs[10..].copy_from_slice(&[start, length]);
+        lent.keys[10..].copy_from_slice(&[start, length]);
+        write(&mut answers, &lent, [26, 26, 26, 28]);
+        lent.text.resize(70_000, b'a');
+        lent.pairs[..4].copy_from_slice(&[0, 66_000, 0, 66_000]);
+        lent.keys[..4].copy_from_slice(&[0, 66_000, 0, 66_000]);
+        let outside = [0xFFFF_FFFF, 70_001];
+        lent.pairs[10..].copy_from_slice(&outside);
+        lent.keys[10..].copy_from_slice(&outside);
+        write(&mut answers, &lent, [26, 26, 26, 28]);
+    }
+    let requests = 2 * WRAPPING.len() as u64;
+    answers.assert_are("writes with a later fault", &[(26, 8 * requests)]);
+}
