@@ -33,8 +33,7 @@ pub fn requests(version: u32) -> [Request; 4] {
     ]
     .map(|(which, mode)| {
         let mut request = Request::default();
-        request.which = which;
-        request.mode = mode;
+        (request.which, request.mode) = (which, mode);
         request
     })
 }

@@ -1,0 +1,208 @@
+//! Counts of pairs and keys with far fewer bytes behind them than they need:
+//! a shortage where the bytes end, whatever is counted and whatever the table.
+
+use bafirolen::Mode;
+use compare_header::answers::Answers;
+use compare_header::{reads, requests};
+use generator::fields::front;
+use generator::image::{keys_with, section, section_with, Form};
+use generator::large::{agreeing, plain};
+use generator::Pair;
+
+const COUNTS: [u16; 9] = [
+    256, 1_024, 10_923, 0x7FFF, 0x8000, 0x8001, 0xFF00, 0xFFFE, 0xFFFF,
+];
+
+/// How many bytes there are behind the count.
+const BYTES: std::ops::RangeInclusive<usize> = 0..=20;
+
+/// Tables of no number, of a few, and of more than the least count asks for.
+const TABLES: [usize; 3] = [0, 30, 1_600];
+
+/// Zeros are empty parts of keys: each takes two bytes, so the first that
+/// isn't there ends behind the last even number of bytes.
+fn short_zeros(before: usize, bytes: usize) -> u64 {
+    (before + bytes / 2 * 2 + 2) as u64
+}
+
+/// Maxima: the first three let the count pass, the other three don't.
+fn maxima(count: u16) -> [(Option<u64>, bool); 6] {
+    let count = u64::from(count);
+    [
+        (None, true),
+        (Some(count), true),
+        (Some(u64::MAX), true),
+        (Some(count - 1), false),
+        (Some(0), false),
+        (Some(255), false),
+    ]
+}
+
+#[test]
+fn of_keys() {
+    let mut answers = Answers::default();
+    for count in COUNTS {
+        for bytes in BYTES {
+            let mut message = keys_with(&[], count).bytes;
+            message.resize(2 + bytes, 0);
+            for length in TABLES {
+                let table = vec![5; length];
+                for (max, passes) in maxima(count) {
+                    let (answer, _) =
+                        reads::read_encrypted_data_keys_section(&message, 0, max, &table);
+                    match passes {
+                        true => answers.short(&answer, short_zeros(2, bytes)),
+                        false => answers.met(&answer, 15),
+                    }
+                }
+            }
+        }
+    }
+    let each = 3 * (COUNTS.len() * BYTES.count() * TABLES.len()) as u64;
+    let wanted = [(2, each), (15, each)];
+    answers.assert_are("key sections with large counts", &wanted);
+}
+
+/// The same in bodies of both versions, behind an empty context and behind
+/// one of two pairs.
+#[test]
+fn of_keys_in_bodies() {
+    let mut answers = Answers::default();
+    for (version, pairs) in [(1, 0), (1, 2), (2, 0), (2, 2)] {
+        let mut fields = plain(version);
+        fields.pairs = agreeing(1, 1, pairs);
+        let mut image = front(&fields);
+        image.image(&section(&fields.pairs, Form::Today));
+        for (count, bytes) in COUNTS.into_iter().flat_map(|c| BYTES.map(move |b| (c, b))) {
+            let mut message = image.bytes.clone();
+            message.extend(count.to_be_bytes());
+            let before = message.len();
+            message.resize(before + bytes, 0);
+            for (max, passes) in maxima(count) {
+                for mut request in requests(version) {
+                    request.max = max;
+                    let (answer, _) =
+                        reads::read_header_body(&message, 0, request, &[3; 8], &[5; 13]);
+                    match passes {
+                        true => answers.short(&answer, short_zeros(before, bytes)),
+                        false => answers.met(&answer, 15),
+                    }
+                }
+            }
+            let told = reads::host_answer(&message, 0);
+            assert_eq!(told, (2, short_zeros(before, bytes)));
+        }
+    }
+    let each = 4 * 3 * 4 * (COUNTS.len() * BYTES.count()) as u64;
+    answers.assert_are("bodies with large key counts", &[(2, each), (15, each)]);
+}
+
+/// A section of a count, of which only these pairs and a few zeros are there;
+/// the stored length is that of all of them. The zeros are one empty pair,
+/// and then the same again.
+fn section_short(pairs: &[Pair], count: u16, zeros: usize) -> (Vec<u8>, (u32, u64)) {
+    let mut image = section_with(pairs, 0, count);
+    let end = image.bytes.len();
+    image.bytes.resize(end + zeros, 0);
+    let length = image.bytes.len() as u16 - 2;
+    image.bytes[..2].copy_from_slice(&length.to_be_bytes());
+    let wanted = match zeros {
+        8.. => (12, 0),
+        _ => (2, (end + zeros / 2 * 2 + 2) as u64),
+    };
+    (image.bytes, wanted)
+}
+
+#[test]
+fn of_pairs() {
+    let mut answers = Answers::default();
+    for (count, zeros) in COUNTS.into_iter().flat_map(|c| BYTES.map(move |b| (c, b))) {
+        for there in [0, 1, 5] {
+            let pairs = agreeing(1, 1, there);
+            let (section, (number, position)) = section_short(&pairs, count, zeros);
+            // No byte of a pair is there, and the length is 2.
+            let empty = there == 0 && zeros == 0;
+            let (number, position) = if empty { (8, 0) } else { (number, position) };
+            for length in TABLES {
+                let table = vec![3; length];
+                for mode in [Mode::Tolerant, Mode::Strict] {
+                    let (answer, _) = reads::read_aad_section(&section, 0, mode, &table);
+                    answers.expected(&answer, number, position);
+                }
+            }
+            let answer = reads::find_value(&section, 0, b"a0");
+            answers.expected(&answer, number, position);
+            in_bodies(&mut answers, &section, number, position);
+        }
+    }
+    // Seven reads, and eight of bodies; 13 of the 21 hold a second empty pair.
+    let each = 15 * COUNTS.len() as u64;
+    let wanted = [(2, (3 * 8 - 1) * each), (8, each), (12, 3 * 13 * each)];
+    answers.assert_are("context sections with large counts", &wanted);
+}
+
+fn in_bodies(answers: &mut Answers, section: &[u8], number: u32, position: u64) {
+    for version in [1, 2] {
+        let mut message = front(&plain(version)).bytes;
+        let before = message.len() as u64;
+        message.extend_from_slice(section);
+        let position = if number == 2 { before + position } else { 0 };
+        for request in requests(version) {
+            let (answer, _) = reads::read_header_body(&message, 0, request, &[3; 8], &[]);
+            answers.expected(&answer, number, position);
+        }
+    }
+}
+
+/// A stored length far beyond the message: the section as a whole is short,
+/// whatever it counts.
+#[test]
+fn with_lengths_beyond() {
+    let mut answers = Answers::default();
+    let mut sections = 0;
+    for count in COUNTS {
+        for length in [0x7FFFu16, 0x8000, 0xFFFF] {
+            let section = section_with(&agreeing(1, 1, 3), length, count).bytes;
+            for end in 2..section.len() {
+                let (answer, _) = reads::read_aad_section(&section[..end], 0, Mode::Strict, &[]);
+                answers.short(&answer, 2 + u64::from(length));
+                sections += 1;
+            }
+        }
+    }
+    // Three pairs of 8 bytes each.
+    assert_eq!(sections, 3 * (2 + 3 * 8) * COUNTS.len() as u64);
+    answers.assert_are("sections cut, with large counts", &[(2, sections)]);
+}
+
+/// 300 pairs, of which the stored length covers one: those behind it are read
+/// on as the count says, and where they are enough, the end is wrong.
+#[test]
+fn with_pairs_behind_the_section() {
+    let mut answers = Answers::default();
+    let mut fields = plain(1);
+    fields.pairs = agreeing(1, 3, 300);
+    let rows = [
+        (299, 14),
+        (300, 14),
+        (301, 2),
+        (0x7FFF, 2),
+        (0x8000, 2),
+        (0xFFFF, 2),
+    ];
+    for (count, number) in rows {
+        let section = section_with(&fields.pairs, 14, count).bytes;
+        let end = section.len() as u64;
+        let short = |before| if number == 2 { before + end + 2 } else { 0 };
+        for length in TABLES {
+            let table = vec![3; length];
+            let (answer, _) = reads::read_aad_section(&section, 0, Mode::Tolerant, &table);
+            answers.expected(&answer, number, short(0));
+        }
+        let mut body = front(&fields).bytes;
+        body.extend_from_slice(&section);
+        assert_eq!(reads::host_answer(&body, 0), (number, short(20)));
+        answers.told(number);
+    }
+    answers.assert_are("pairs behind their section", &[(2, 4 * 4), (14, 2 * 4)]);
+}
