@@ -1,0 +1,88 @@
+//! Listings of tens of thousands of bytes and more, into outputs that they
+//! fill, that are a byte short, and of sizes that a buffer might have.
+
+use compare_header::answers::Answers;
+use compare_header::writes;
+use generator::fields::Fields;
+use generator::image::Form;
+use generator::large::{agreeing, plain, LONGEST};
+use generator::lines::listing;
+use generator::Key;
+
+/// Room that a fixed buffer might have.
+const ROOMS: [usize; 6] = [65_535, 65_536, 69_999, 70_000, 70_001, 131_072];
+
+/// Into each output that the listing fills or doesn't; the text is that of
+/// the fields, and what lies behind it is kept.
+fn list(answers: &mut Answers, fields: &Fields) -> usize {
+    let message = fields.image(Form::Today).bytes;
+    let text = listing(fields);
+    let length = text.len();
+    for room in ROOMS.into_iter().chain([length - 1, length, length + 9]) {
+        let (answer, out) = writes::write_listing(&message, &vec![0x11; room]);
+        if room < length {
+            answers.met(&answer, 28);
+            continue;
+        }
+        answers.met(&answer, 0);
+        assert!(out.starts_with(text.as_bytes()), "the listing");
+        assert!(out[length..].iter().all(|&byte| byte == 0x11), "behind it");
+    }
+    length
+}
+
+/// A version's fields with one key whose ciphertext has this length.
+fn long(version: u32, length: usize) -> Fields {
+    let mut fields = plain(version);
+    let bytes = (0..length).map(|at| at as u8).collect();
+    fields.keys = vec![[b"p".to_vec(), Vec::new(), bytes]];
+    fields
+}
+
+/// Of every length around 65,536 and 70,000 that the parity allows, and around
+/// twice 65,536.
+#[test]
+fn one_long_part() {
+    let mut answers = Answers::default();
+    let mut accepted = 0;
+    for version in [1, 2] {
+        let shortest = listing(&long(version, 0)).len();
+        for around in [65_536, 70_000, 131_072] {
+            let digits = |more: usize| (around + more - 12 - shortest) / 2;
+            for length in (0..12).map(digits).filter(|&length| length <= LONGEST) {
+                let listed = list(&mut answers, &long(version, length));
+                assert!(listed.abs_diff(around) < 30, "{listed} around {around}");
+                accepted += ROOMS.iter().filter(|&&room| room >= listed).count() as u64 + 2;
+            }
+        }
+    }
+    let lists = 2 * 3 * 12;
+    let wanted = [(0, accepted), (28, 9 * lists - accepted)];
+    assert!(accepted > 2 * lists && accepted < 8 * lists, "{accepted}");
+    answers.assert_are("listings of about 65,536 to 131,072 bytes", &wanted);
+}
+
+/// Many parts, up to what the tables hold, and messages longer than the
+/// program reads.
+#[test]
+fn many_long_parts() {
+    let mut answers = Answers::default();
+    let key = |length: usize| -> Key {
+        let bytes = vec![0xAB; length];
+        [vec![b'p'; length], bytes.clone(), bytes]
+    };
+    for version in [1, 2] {
+        let mut fields = plain(version);
+        fields.pairs = agreeing(50, 4, 1_000);
+        // All outputs of a buffer's size but the largest are too short.
+        let listed = list(&mut answers, &fields);
+        assert!(listed > 100_000 && listed < 131_072, "{listed}");
+        fields.keys = vec![key(64); 682];
+        assert!(list(&mut answers, &fields) > 262_144);
+        fields.keys = vec![key(LONGEST); 3];
+        assert!(list(&mut answers, &fields) > 1_048_576);
+    }
+    // Each fits the two outputs of its own length and more; one that size.
+    let wanted = [(0, 2 * (3 * 2 + 1)), (28, 2 * (3 * 7 - 1))];
+    answers.assert_are("listings of up to a megabyte", &wanted);
+}
