@@ -13,7 +13,7 @@ use generator::random::Random;
 use generator::tables::{lend, Lent};
 use generator::{Key, Pair};
 
-/// The answers of one call of `pairs` without its finds, and of `keys`.
+/// How many answers a call of `pairs` counts, and one of `keys`.
 pub const USES_OF_PAIRS: u64 = 2 + 1 + 2 * 5;
 pub const USES_OF_KEYS: u64 = 1 + 1 + 2 * 5;
 
@@ -100,7 +100,7 @@ pub fn pairs(random: &mut Random, answers: &mut Answers, pairs: &[Pair], wanted:
     bodies(random, answers, pairs, &[], wanted);
 }
 
-/// Finds in the section of pairs: each answers `wanted`, and if that is 0 the
+/// A find in the section of pairs: it answers `wanted`, and if that is 0 the
 /// value of the pair that has the key.
 pub fn find(answers: &mut Answers, pairs: &[Pair], key: &[u8], wanted: u32) {
     let image = section_of(pairs).bytes;

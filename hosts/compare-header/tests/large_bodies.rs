@@ -3,6 +3,7 @@
 use compare_header::answers::Answers;
 use compare_header::every::{self, write_body, USES_OF_KEYS, USES_OF_PAIRS};
 use compare_header::{reads, requests};
+use generator::fields::Fields;
 use generator::image::Form;
 use generator::large::plain;
 use generator::many::{pairs, MOST, ORDERS};
@@ -75,8 +76,29 @@ fn many_keys() {
     answers.assert_are("bodies and sections of up to 65,535 keys", &wanted);
 }
 
-/// Pairs and keys together, with tables that fit, that are one number short,
-/// and longer; the maximum just as great, and one less.
+/// Reads with tables that fit, that are one number short, and longer; the
+/// maximum just as great, and one less.
+fn read_by_table(answers: &mut Answers, fields: &Fields, image: &[u8]) {
+    let (pairs, keys) = (4 * fields.pairs.len(), 6 * fields.keys.len());
+    let tables = [
+        (pairs, keys, 0, 0),
+        (pairs + 9, keys + 9, 0, 0),
+        (pairs - 1, keys, 0, 22),
+        (pairs, keys - 1, 0, 23),
+        (pairs, keys, 1, 15),
+    ];
+    for (pairs, keys, fewer, wanted) in tables {
+        let (pairs, keys) = (vec![3; pairs], vec![5; keys]);
+        for mut request in requests(fields.version) {
+            request.max = Some((fields.keys.len() - fewer) as u64);
+            let (answer, _) = reads::read_header_body(image, 0, request, &pairs, &keys);
+            answers.met(&answer, wanted);
+        }
+    }
+}
+
+/// Pairs and keys together, written into an output that the image fills and
+/// into one that is a byte short, and read.
 #[test]
 fn both_and_tables() {
     let mut random = Random::new(153);
@@ -96,22 +118,7 @@ fn both_and_tables() {
             answers.met(&answer, wanted);
             assert!(wanted != 0 || out == image, "the image");
         }
-        let (pairs, keys) = (4 * pair_count, 6 * key_count);
-        let tables = [
-            (pairs, keys, 0, 0),
-            (pairs + 9, keys + 9, 0, 0),
-            (pairs - 1, keys, 0, 22),
-            (pairs, keys - 1, 0, 23),
-            (pairs, keys, 1, 15),
-        ];
-        for (pairs, keys, fewer, wanted) in tables {
-            let (pairs, keys) = (vec![3; pairs], vec![5; keys]);
-            for mut request in requests(version) {
-                request.max = Some((key_count - fewer) as u64);
-                let (answer, _) = reads::read_header_body(&image, 0, request, &pairs, &keys);
-                answers.met(&answer, wanted);
-            }
-        }
+        read_by_table(&mut answers, &fields, &image);
     }
     let bodies = 2 * sizes.len() as u64;
     let wanted = [(0, 9), (15, 4), (22, 4), (23, 4), (28, 1)];
