@@ -4,6 +4,7 @@
 use compare_header::answers::Answers;
 use compare_header::every;
 use compare_header::reads;
+use generator::large::zeros;
 use generator::random::Random;
 use generator::Pair;
 
@@ -36,8 +37,8 @@ fn lengths_that_agree_in_16_bits() {
     answers.assert_are("finds of long keys", &[(0, found), (29, 3 * found + 7)]);
 }
 
-/// A zeroed vector takes no memory where it isn't written to, and bytes are
-/// held against one another only where lengths are equal.
+/// Bytes are held against one another only where lengths are equal, so none of
+/// the long keys are looked at.
 #[test]
 fn lengths_that_agree_in_32_bits() {
     let mut answers = Answers::default();
@@ -45,7 +46,7 @@ fn lengths_that_agree_in_32_bits() {
     let pairs: Vec<Pair> = lengths
         .map(|length| (vec![0; length], format!("v{length}").into_bytes()))
         .to_vec();
-    let zeros = vec![0u8; (1 << 32) + 300];
+    let zeros = zeros((1 << 32) + 300);
     for length in lengths {
         every::find(&mut answers, &pairs, &zeros[..length], 0);
         every::find(&mut answers, &pairs, &zeros[..(1 << 32) + length], 29);

@@ -6,7 +6,7 @@ use compare_header::answers::Answers;
 use compare_header::{reads, requests};
 use generator::fields::Fields;
 use generator::image::{keys, section, Form, Image};
-use generator::large::{agreeing, plain};
+use generator::large::{agreeing, plain, zeros};
 use generator::random::Random;
 
 const GREATEST: usize = u32::MAX as usize;
@@ -86,11 +86,8 @@ fn starts() -> Vec<usize> {
     }
     let mut random = Random::new(171);
     let most = GREATEST as u64 - 200;
-    starts.extend(
-        [1_000]
-            .into_iter()
-            .chain((0..30).map(|_| random.between(301, most) as usize)),
-    );
+    starts.push(1_000);
+    starts.extend((0..30).map(|_| random.between(301, most) as usize));
     starts
 }
 
@@ -98,7 +95,7 @@ fn starts() -> Vec<usize> {
 /// before the start.
 #[test]
 fn up_to_four_gibibytes() {
-    let mut memory = vec![0u8; GREATEST];
+    let mut memory = zeros(GREATEST);
     let mut answers = Answers::default();
     let (mut accepted, mut short) = (0, 0);
     for fields in [sample(1), sample(2)] {
@@ -130,7 +127,7 @@ fn up_to_four_gibibytes() {
 /// and its sections may begin behind the greatest start.
 #[test]
 fn at_the_greatest_length() {
-    let mut memory = vec![0u8; GREATEST];
+    let mut memory = zeros(GREATEST);
     let mut answers = Answers::default();
     let (mut accepted, mut too_large, mut all) = (0, 0, 0);
     for fields in [sample(1), sample(2)] {
@@ -157,7 +154,7 @@ fn at_the_greatest_length() {
 /// Authentication records, of 28 bytes and of 16.
 #[test]
 fn authentication_records() {
-    let mut memory = vec![0u8; GREATEST];
+    let mut memory = zeros(GREATEST);
     let mut answers = Answers::default();
     let record: Vec<u8> = (1..=28).collect();
     let starts = starts();

@@ -5,7 +5,7 @@ use compare_header::answers::Answers;
 use compare_header::numbers::numbers;
 use compare_header::writes::{self, BodyLent};
 use generator::image::{keys, section, Form};
-use generator::large::plain;
+use generator::large::{plain, zeros};
 use generator::{Key, Pair};
 
 const BOUND: usize = 1 << 32;
@@ -14,10 +14,9 @@ const BOUND: usize = 1 << 32;
 const ACROSS: (u32, u32) = (0xFFFF_FFF0, 0x20);
 const LAST: (u32, u32) = (0xFFFF_FFFF, 101);
 
-/// Zeros but around the bound. The pages of a zeroed vector take no memory
-/// until they are written to.
+/// Zeros but around the bound.
 fn text() -> Vec<u8> {
-    let mut text = vec![0u8; BOUND + 100];
+    let mut text = zeros(BOUND + 100);
     for (i, byte) in text[BOUND - 16..BOUND + 40].iter_mut().enumerate() {
         *byte = b'A' + i as u8;
     }

@@ -1,5 +1,7 @@
 //! Headers that more than one test takes.
 
+use crate::large::zeros;
+
 /// Bytes from hexadecimal digits; anything else only separates.
 pub fn hex(text: &str) -> Vec<u8> {
     let digits: Vec<u8> = text
@@ -40,16 +42,9 @@ pub fn header_h_refused() -> [(Vec<u8>, u64, (u32, u64)); 6] {
 }
 
 /// A message one byte longer than the greatest length; H ends at that length.
-/// The pages of a zeroed vector take no memory until they are written to.
 pub fn header_h_at_four_gibibytes() -> Vec<u8> {
     let greatest = u32::MAX as usize;
-    let mut probe: Vec<u8> = Vec::new();
-    assert!(
-        probe.try_reserve_exact(greatest + 1).is_ok(),
-        "no room for the message"
-    );
-    drop(probe);
-    let mut message = vec![0u8; greatest + 1];
+    let mut message = zeros(greatest + 1);
     let h = header_h();
     message[greatest - h.len()..greatest].copy_from_slice(&h);
     message

@@ -6,6 +6,18 @@ use crate::Pair;
 /// The longest part of an entry.
 pub const LONGEST: usize = 65_535;
 
+/// Bytes that are all 0, more than 32 bits can count if need be. The pages of
+/// a zeroed vector take no memory until they are written to.
+pub fn zeros(length: usize) -> Vec<u8> {
+    let mut probe: Vec<u8> = Vec::new();
+    assert!(
+        probe.try_reserve_exact(length).is_ok(),
+        "no room for {length} bytes"
+    );
+    drop(probe);
+    vec![0; length]
+}
+
 /// Fields of a version without pairs and keys, framed.
 pub fn plain(version: u32) -> Fields {
     let first = version == 1;
