@@ -48,11 +48,13 @@ fn body_of(fields: &Fields) -> Vec<u8> {
     image.bytes
 }
 
-fn parts_of_pairs(pairs: &[Pair]) -> impl Iterator<Item = &[u8]> {
+/// Keys and values in the order of a pair table.
+pub fn parts_of_pairs(pairs: &[Pair]) -> impl Iterator<Item = &[u8]> {
     pairs.iter().flat_map(|(key, value)| [&key[..], value])
 }
 
-fn parts_of_keys(keys: &[Key]) -> impl Iterator<Item = &[u8]> {
+/// The parts in the order of a key table.
+pub fn parts_of_keys(keys: &[Key]) -> impl Iterator<Item = &[u8]> {
     keys.iter().flatten().map(|part| &part[..])
 }
 

@@ -3,6 +3,8 @@
 
 use bafirolen::Mode;
 use compare_header::answers::Answers;
+use compare_header::every::{parts_of_keys, parts_of_pairs};
+use compare_header::expected::parts_are;
 use compare_header::{reads, requests};
 use generator::fields::Fields;
 use generator::image::{keys, section, Form, Image};
@@ -45,8 +47,12 @@ fn read_all(answers: &mut Answers, message: &[u8], start: u64, fields: &Fields) 
     let image = fields.image(Form::Today);
     let (number, position) = outcome(&image, start, message);
     for request in requests(fields.version) {
-        let (answer, _) = reads::read_header_body(message, start, request, &[7; 8], &[7; 12]);
+        let (answer, tables) = reads::read_header_body(message, start, request, &[7; 8], &[7; 12]);
         answers.expected(&answer, number, position);
+        if number == 0 {
+            parts_are(start, message, &tables.pairs, parts_of_pairs(&fields.pairs));
+            parts_are(start, message, &tables.keys, parts_of_keys(&fields.keys));
+        }
     }
     let end = start + image.bytes.len() as u64;
     let told = if number == 0 { end } else { position };
