@@ -31,6 +31,11 @@ fn list(answers: &mut Answers, fields: &Fields) -> usize {
     length
 }
 
+/// How many of the outputs hold a listing of this length.
+fn fitting(listed: usize) -> u64 {
+    ROOMS.iter().filter(|&&room| room >= listed).count() as u64 + 2
+}
+
 /// A version's fields with one key whose ciphertext has this length.
 fn long(version: u32, length: usize) -> Fields {
     let mut fields = plain(version);
@@ -52,7 +57,7 @@ fn one_long_part() {
             for length in (0..12).map(digits).filter(|&length| length <= LONGEST) {
                 let listed = list(&mut answers, &long(version, length));
                 assert!(listed.abs_diff(around) < 30, "{listed} around {around}");
-                accepted += ROOMS.iter().filter(|&&room| room >= listed).count() as u64 + 2;
+                accepted += fitting(listed);
             }
         }
     }
@@ -85,4 +90,32 @@ fn many_long_parts() {
     // Each fits the two outputs of its own length and more; one that size.
     let wanted = [(0, 2 * (3 * 2 + 1)), (28, 2 * (3 * 7 - 1))];
     answers.assert_are("listings of up to a megabyte", &wanted);
+}
+
+/// The program reads 65,536 bytes of a message; here it is taken whole.
+#[test]
+fn messages_longer_than_the_program_reads() {
+    let mut answers = Answers::default();
+    let mut accepted = 0;
+    let lengths = [65_536, 65_537, 65_600, 70_000, 70_001, 100_000, 131_072];
+    for length in lengths {
+        for version in [1, 2] {
+            let mut fields = plain(version);
+            fields.keys = vec![Key::default(); 3];
+            let mut rest = length - fields.image(Form::Today).bytes.len();
+            for key in &mut fields.keys {
+                let taken = rest.min(50_000);
+                key[1] = vec![0xCD; taken];
+                rest -= taken;
+            }
+            assert_eq!(fields.image(Form::Today).bytes.len(), length);
+            let listed = list(&mut answers, &fields);
+            assert!(listed > 130_900, "{listed}");
+            accepted += fitting(listed);
+        }
+    }
+    let lists = 2 * lengths.len() as u64;
+    let wanted = [(0, accepted), (28, 9 * lists - accepted)];
+    assert!(accepted >= 2 * lists && accepted < 3 * lists, "{accepted}");
+    answers.assert_are("listings of long messages", &wanted);
 }
