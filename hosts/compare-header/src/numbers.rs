@@ -90,6 +90,16 @@ impl Ours for bafirolen::AuthRecord {
     }
 }
 
+/// The position that a shortage wants, 0 where there is none.
+pub fn position<T>(answer: &Answer<T>) -> u64 {
+    answer.as_ref().err().map_or(0, |refusal| refusal.position)
+}
+
+/// The refusal's number and position, zeros where there is none.
+pub fn answered<T>(answer: &Answer<T>) -> (u32, u64) {
+    (number(answer), position(answer))
+}
+
 pub fn mode(mode: Mode) -> reference::Mode {
     match mode {
         Mode::Tolerant => reference::Mode::Tolerant,

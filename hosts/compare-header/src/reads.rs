@@ -4,7 +4,8 @@ use crate::guarded::Guarded;
 use crate::numbers::{self, auth, body, place, refused, section};
 use crate::numbers::{Answer, AuthRecord, Body, Ours, Section};
 use crate::parts::{keys_are, pairs_are};
-use bafirolen::{Mode, Place, Refusal, Request};
+use bafirolen::{Mode, Place, Request};
+use reference::refusal::OUTPUT;
 use std::fmt::{self, Debug, Formatter};
 
 /// The front of what is lent, as a failure shows it: the whole may be long.
@@ -183,36 +184,35 @@ pub fn find_value(message: &[u8], start: u64, key: &[u8]) -> Answer<Place> {
         few(theirs),
         shown(message, start)
     );
-    copy_value(message, start, key);
+    copies(message, start, key);
     answer
 }
 
-/// A value's copy, into outputs that hold it and outputs that don't.
-fn copy_value(message: &[u8], start: u64, key: &[u8]) {
-    let found = reference::find(message, start, key).map_err(refused);
+/// A value's copy: the answer, and the output afterwards.
+pub fn copy_value(message: &[u8], start: u64, key: &[u8], out: &[u8]) -> (Answer<usize>, Vec<u8>) {
     let value = reference::find_part(message, start, key);
-    for room in [
-        0,
-        value.len().saturating_sub(1),
-        value.len(),
-        value.len() + 3,
-    ] {
-        let before: Vec<u8> = (0..room).map(|i| !(i as u8)).collect();
-        let wanted = match found {
-            Err(refusal) => Err(refusal),
-            Ok(_) if room < value.len() => Err(Refusal::OutputTooShort),
-            Ok(_) => Ok(value.len()),
-        };
-        let mut after = before.clone();
-        let answer = bafirolen::copy_value(message, start, key, &mut after);
-        same(&answer, &wanted, Asked(key), message, start);
-        let copied = wanted.unwrap_or(0);
-        assert!(
-            after[..copied] == value[..copied] && after[copied..] == before[copied..],
-            "{:?}: a copy into {room} bytes, {}",
-            Asked(key),
-            shown(message, start)
-        );
+    let wanted = match reference::find(message, start, key) {
+        Err(refusal) => Err(refused(refusal)),
+        Ok(_) if out.len() < value.len() => Err(refused(reference::Refusal::of(OUTPUT))),
+        Ok(_) => Ok(value.len()),
+    };
+    let mut copied = out.to_vec();
+    if wanted.is_ok() {
+        copied[..value.len()].copy_from_slice(value);
+    }
+    let mut ours = Guarded::new(out);
+    let answer = bafirolen::copy_value(message, start, key, ours.lend());
+    same(&answer, &wanted, (Asked(key), out.len()), message, start);
+    ours.assert_holds(&copied, "a value's copy");
+    (answer, copied)
+}
+
+/// A value's copy, into outputs that hold it and outputs that don't.
+fn copies(message: &[u8], start: u64, key: &[u8]) {
+    let len = reference::find_part(message, start, key).len();
+    for room in [0, len.saturating_sub(1), len, len + 3] {
+        let out: Vec<u8> = (0..room).map(|i| !(i as u8)).collect();
+        let _ = copy_value(message, start, key, &out);
     }
 }
 

@@ -8,6 +8,7 @@
 pub mod auth_cases;
 pub mod body_cases;
 pub mod body_write_cases;
+pub mod faults;
 pub mod fields;
 pub mod headers;
 pub mod image;

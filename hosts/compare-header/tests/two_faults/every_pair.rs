@@ -1,0 +1,115 @@
+//! Two faults of a list at a time.
+
+use super::apart::apart;
+use compare_header::{compared, Coverage};
+use generator::faults::{Draft, ReadDraft, RecordDraft, WriteDraft};
+use std::collections::BTreeSet;
+
+/// A fault: its name, which begins with the refusal's number, and how it is
+/// planted.
+pub struct Fault<D> {
+    pub name: String,
+    plant: Box<dyn Fn(&mut D)>,
+}
+
+fn fault<D>(name: &str, plant: impl Fn(&mut D) + 'static) -> Fault<D> {
+    Fault {
+        name: name.to_string(),
+        plant: Box::new(plant),
+    }
+}
+
+/// A fault of a message, or of what a reader is lent.
+pub fn read(name: &str, plant: impl Fn(&mut ReadDraft) + 'static) -> Fault<ReadDraft> {
+    fault(name, plant)
+}
+
+/// A fault of what a writer is lent.
+pub fn write(name: &str, plant: impl Fn(&mut WriteDraft) + 'static) -> Fault<WriteDraft> {
+    fault(name, plant)
+}
+
+/// A fault of an authentication record.
+pub fn record(name: &str, plant: impl Fn(&mut RecordDraft) + 'static) -> Fault<RecordDraft> {
+    fault(name, plant)
+}
+
+/// The names of a list, in the order of tests.
+pub type Names = Vec<String>;
+
+/// An operation: a request that it accepts, and the faults of its list in the
+/// order of tests.
+pub struct Listed<D> {
+    pub operation: &'static str,
+    pub sound: D,
+    pub list: Vec<Fault<D>>,
+}
+
+/// The number that a name begins with.
+pub fn number_of(name: &str) -> u32 {
+    let number = name.split(' ').next().expect("a name has a word");
+    number.parse().expect("a name begins with a number")
+}
+
+impl<D: Draft> Fault<D> {
+    fn planted(&self, draft: &D) -> D {
+        let mut draft = draft.clone();
+        (self.plant)(&mut draft);
+        draft
+    }
+
+    /// What document 01 has for a request in which this is the first fault.
+    fn wanted(&self, draft: &D) -> (u32, u64) {
+        match number_of(&self.name) {
+            2 => (2, draft.position()),
+            number => (number, 0),
+        }
+    }
+}
+
+impl<D: Draft> Listed<D> {
+    pub fn names(&self) -> Names {
+        self.list.iter().map(|fault| fault.name.clone()).collect()
+    }
+
+    /// Asks for every two faults, and counts the answers to one alone. `ask`
+    /// gives number and position, or zeros.
+    pub fn every_pair(&self, answers: &mut Coverage, ask: impl Fn(&D) -> (u32, u64)) {
+        let mut seen = BTreeSet::new();
+        let operation = self.operation;
+        assert_eq!(ask(&self.sound), (0, 0), "{operation}: no fault");
+        answers.count(operation, 0);
+        for (at, second) in self.list.iter().enumerate() {
+            let alone = second.planted(&self.sound);
+            let wanted = second.wanted(&alone);
+            assert_eq!(ask(&alone), wanted, "{operation}: {}", second.name);
+            answers.count(operation, wanted.0);
+            for first in &self.list[..at] {
+                let both = first.planted(&alone);
+                let names = (&first.name, &second.name);
+                assert_eq!(ask(&both), first.wanted(&both), "{operation}: {names:?}");
+                seen.insert(names);
+            }
+        }
+        let together = self.assert_neighbours(&seen);
+        let neighbours = self.list.len() - 1;
+        compared(
+            seen.len() as u64,
+            &format!(
+                "pairs of faults: {operation}, {together} of {neighbours} neighbours together"
+            ),
+        );
+    }
+
+    /// Every two neighbours were in one request; gives how many of them hold
+    /// of it together.
+    fn assert_neighbours(&self, seen: &BTreeSet<(&String, &String)>) -> usize {
+        let mut together = 0;
+        for two in self.list.windows(2) {
+            let names = (&two[0].name, &two[1].name);
+            assert!(seen.contains(&names), "{}: {names:?}", self.operation);
+            together += usize::from(apart(names.0, names.1).is_none());
+        }
+        together
+    }
+}

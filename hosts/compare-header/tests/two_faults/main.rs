@@ -1,0 +1,36 @@
+//! Two faults in one request, for every two that an operation lists.
+//!
+//! Each operation has a table, in document 01's order of tests, of its faults
+//! and of how each is planted. Whatever two faults a request has, the answer
+//! is the one listed first, with its position; mended, it is the other.
+
+mod apart;
+mod bodies;
+mod every_pair;
+mod reads;
+mod sections;
+mod writes;
+
+use every_pair::Names;
+
+/// The list of every operation.
+fn operations() -> Vec<Names> {
+    let mut all = reads::lists();
+    all.extend(bodies::lists());
+    all.extend(writes::lists());
+    all
+}
+
+/// No row is left over there when a list changes.
+#[test]
+fn pairs_that_are_named_apart_are_neighbours() {
+    let operations = operations();
+    for (first, second, _) in apart::NAMED {
+        assert!(
+            operations.iter().any(|names| names
+                .windows(2)
+                .any(|two| two[0] == *first && two[1] == *second)),
+            "no list has {first} before {second}"
+        );
+    }
+}

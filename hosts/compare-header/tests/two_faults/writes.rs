@@ -1,0 +1,191 @@
+//! Writing: both sections, a body of each version, the authentication record.
+
+use super::every_pair::{record, write, Fault, Listed, Names};
+use compare_header::numbers::{answered, numbers};
+use compare_header::writes::{self, BodyLent};
+use compare_header::Coverage;
+use generator::faults::{ReadDraft, RecordDraft, WriteDraft};
+
+type Faults = Vec<Fault<WriteDraft>>;
+
+/// Parts of a table are counted from 0: the key and the value of a pair, the
+/// three of a key.
+fn pairs() -> Faults {
+    vec![
+        write("26 pairs in fours", |d| d.pairs.push(0)),
+        write("26 pair place", |d| {
+            WriteDraft::outside(&mut d.pairs, 4, &d.text)
+        }),
+        write("27 pair count", |d| WriteDraft::too_many(&mut d.pairs, 4)),
+        write("27 pair part", |d| {
+            WriteDraft::long_part(&mut d.pairs, 5, 65_536)
+        }),
+        write("10 key 1", |d| WriteDraft::bad_part(&mut d.pairs, 0)),
+        write("11 value 1", |d| WriteDraft::bad_part(&mut d.pairs, 1)),
+        write("10 key 2", |d| WriteDraft::bad_part(&mut d.pairs, 2)),
+        write("11 value 2", |d| WriteDraft::bad_part(&mut d.pairs, 3)),
+        write("12 key 2", |d| d.pairs.copy_within(0..2, 4)),
+        // Two pairs of 12 bytes, and one of 8 and this value: 65,534.
+        write("13 pairs", |d| {
+            WriteDraft::long_part(&mut d.pairs, 5, 65_502)
+        }),
+    ]
+}
+
+fn keys() -> Faults {
+    vec![
+        write("26 keys in sixes", |d| d.keys.push(0)),
+        write("26 key place", |d| {
+            WriteDraft::outside(&mut d.keys, 5, &d.text)
+        }),
+        write("27 key count", |d| WriteDraft::too_many(&mut d.keys, 6)),
+        write("27 key part", |d| {
+            WriteDraft::long_part(&mut d.keys, 4, 65_536)
+        }),
+        write("16 provider 1", |d| WriteDraft::bad_part(&mut d.keys, 0)),
+        write("16 provider 2", |d| WriteDraft::bad_part(&mut d.keys, 3)),
+    ]
+}
+
+fn output() -> Fault<WriteDraft> {
+    write("28 output", |d| d.room -= 1)
+}
+
+/// Write a context section.
+fn context() -> Listed<WriteDraft> {
+    let mut list = pairs();
+    list.push(output());
+    Listed {
+        operation: "write section",
+        sound: WriteDraft::context(),
+        list,
+    }
+}
+
+/// Write a key section.
+fn key_section() -> Listed<WriteDraft> {
+    let mut list = keys();
+    list.push(output());
+    Listed {
+        operation: "write keys",
+        sound: WriteDraft::keys(),
+        list,
+    }
+}
+
+const VERSION: usize = 0;
+const TYPE: usize = 1;
+const SUITE: usize = 2;
+const CONTENT_TYPE: usize = 3;
+const IV_LENGTH: usize = 4;
+
+/// Write a body of a version.
+fn body(version: u32) -> Listed<WriteDraft> {
+    let other_suite = if version == 1 { 0x0478 } else { 0x0378 };
+    let mut list = vec![
+        write("3 version", |d| d.numbers[VERSION] = 3),
+        write("5 type", |d| d.numbers[TYPE] ^= 1),
+        write("6 suite", |d| d.numbers[SUITE] ^= 1),
+        write("7 suite", move |d| d.numbers[SUITE] = other_suite),
+        write("24 ID", |d| d.id.push(0)),
+    ];
+    list.extend(pairs());
+    list.extend(keys());
+    list.extend([
+        write("17 content type", |d| d.numbers[CONTENT_TYPE] = 3),
+        write("19 IV length", |d| d.numbers[IV_LENGTH] += 1),
+        write("25 suite data", |d| d.suite_data.push(0)),
+        write("20 framed", |d| d.content(2, 0)),
+        write("20 non-framed", |d| d.content(1, 1)),
+        output(),
+    ]);
+    Listed {
+        operation: "write body",
+        sound: WriteDraft::body(version),
+        list,
+    }
+}
+
+/// Write an authentication record of a suite of a version.
+fn auth(version: u32) -> Listed<RecordDraft> {
+    Listed {
+        operation: "write auth",
+        sound: RecordDraft::new(version),
+        list: vec![
+            record("6 suite", |d| d.suite ^= 1),
+            record("19 IV", |d| d.iv.push(0)),
+            record("30 tag", |d| d.tag.push(0)),
+            record("28 output", |d| d.room -= 1),
+        ],
+    }
+}
+
+pub fn lists() -> Vec<Names> {
+    let mut lists = vec![context().names(), key_section().names()];
+    lists.extend([1, 2].map(|version| body(version).names()));
+    lists.extend([1, 2].map(|version| auth(version).names()));
+    lists
+}
+
+#[test]
+fn sections() {
+    let mut answers = Coverage::default();
+    context().every_pair(&mut answers, |d| {
+        answered(&writes::write_aad_section(&d.text, &d.pairs, &vec![0xEE; d.room]).0)
+    });
+    key_section().every_pair(&mut answers, |d| {
+        let out = vec![0xEE; d.room];
+        answered(&writes::write_encrypted_data_keys_section(&d.text, &d.keys, &out).0)
+    });
+    answers.assert_complete();
+}
+
+#[test]
+fn written_bodies() {
+    let mut answers = Coverage::default();
+    for version in [1, 2] {
+        body(version).every_pair(&mut answers, |d| {
+            let lent = BodyLent {
+                numbers: numbers(&reference::Numbers::from(d.numbers)),
+                message_id: &d.id,
+                suite_data: &d.suite_data,
+                text: &d.text,
+                pairs: &d.pairs,
+                keys: &d.keys,
+            };
+            answered(&writes::write_header_body(lent, &vec![0xEE; d.room]).0)
+        });
+    }
+    answers.assert_complete();
+}
+
+#[test]
+fn written_records() {
+    let mut answers = Coverage::default();
+    for version in [1, 2] {
+        auth(version).every_pair(&mut answers, |d| {
+            let out = vec![0xEE; d.room];
+            answered(&writes::write_header_auth_tag(d.suite, &d.iv, &d.tag, &out).0)
+        });
+    }
+    answers.assert_complete();
+}
+
+/// List a header: 28 is all that can be refused, whatever the message.
+#[test]
+fn listings() {
+    let mut answers = Coverage::default();
+    let mut cut = ReadDraft::body(1);
+    cut.cut_key(1, 5);
+    for draft in [ReadDraft::body(1), ReadDraft::body(2), cut] {
+        // The program reads at 0.
+        let message = &draft.message()[draft.start as usize..];
+        let length = reference::listing(message).len();
+        for (room, wanted) in [(length, (0, 0)), (length - 1, (28, 0))] {
+            let (answer, _) = writes::write_listing(message, &vec![0xEE; room]);
+            assert_eq!(answered(&answer), wanted, "{room}");
+            answers.count("write listing", wanted.0);
+        }
+    }
+    answers.assert_complete();
+}
