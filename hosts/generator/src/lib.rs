@@ -17,6 +17,7 @@ pub mod large;
 pub mod lines;
 pub mod many;
 pub mod random;
+pub mod rows;
 pub mod section_cases;
 pub mod sections;
 pub mod surroundings;

@@ -2,8 +2,9 @@
 
 mod common;
 
-use common::report;
+use common::{refusal, report, report_rows};
 use generator::random::Random;
+use generator::rows::leaves as rows;
 use generator::texts::text;
 use reference::seen::Seen;
 use reference::*;
@@ -12,146 +13,45 @@ use std::collections::BTreeSet;
 
 #[test]
 fn reads_at_every_edge() {
-    let message: Vec<u8> = (0..10).collect();
-    let starts = [
-        0,
-        1,
-        8,
-        9,
-        10,
-        11,
-        70,
-        u64::from(u32::MAX),
-        1 << 32,
-        u64::MAX - 1,
-        u64::MAX,
-    ];
-    let mut compared = 0;
-    for start in starts {
-        for n in [0, 1, 2, 4, 9, 10, 11, 65_535, u64::MAX] {
-            let end = u128::from(start) + u128::from(n);
-            let wanted = if end <= 10 {
-                Ok(Place { start, len: n })
-            } else {
-                // Saturated where 64 bits can't name the position.
-                Err(Refusal {
-                    number: 2,
-                    position: u64::try_from(end).unwrap_or(u64::MAX),
-                })
-            };
-            assert_eq!(read_bytes(&message, start, n), wanted, "{start} {n}");
-            compared += 1;
-        }
-        let short = |n: u64| Refusal {
-            number: 2,
-            position: start.saturating_add(n),
+    // The leaves leave refusal 1 to the operations above them.
+    let bytes = rows::bytes_at_every_edge(u64::MAX, &rows::LENGTHS, |message, start, n| {
+        read_bytes(message, start, n)
+            .map(|place| (place.start, place.len))
+            .map_err(refusal)
+    });
+    let numbers = rows::numbers_at_every_edge(u64::MAX, |message, start, n| {
+        let answer = match n {
+            1 => read_u8(message, start).map(|(value, tail)| (value.into(), tail)),
+            2 => read_u16(message, start).map(|(value, tail)| (value.into(), tail)),
+            _ => read_u32(message, start).map(|(value, tail)| (value.into(), tail)),
         };
-        let at = start as usize;
-        let wanted = if start < 10 {
-            Ok((message[at], start + 1))
-        } else {
-            Err(short(1))
-        };
-        assert_eq!(read_u8(&message, start), wanted);
-        let wanted = if start < 9 {
-            Ok((
-                u16::from(message[at]) << 8 | u16::from(message[at + 1]),
-                start + 2,
-            ))
-        } else {
-            Err(short(2))
-        };
-        assert_eq!(read_u16(&message, start), wanted);
-        let wanted = if start < 7 {
-            let four = [
-                message[at],
-                message[at + 1],
-                message[at + 2],
-                message[at + 3],
-            ];
-            Ok((u32::from_be_bytes(four), start + 4))
-        } else {
-            Err(short(4))
-        };
-        assert_eq!(read_u32(&message, start), wanted);
-        compared += 3;
-    }
-    report("leaf reads", compared);
+        answer.map_err(refusal)
+    });
+    report_rows("leaf reads", bytes + numbers, 132);
 }
 
 #[test]
 fn entries() {
-    let rows: [(&[u8], u64, Result<Place, u64>); 7] = [
-        (&[0, 0], 0, Ok(Place { start: 2, len: 0 })),
-        (&[0, 2, 7, 7, 7], 0, Ok(Place { start: 2, len: 2 })),
-        (&[9, 0, 1, 7], 1, Ok(Place { start: 3, len: 1 })),
-        (&[0, 2, 7], 0, Err(4)),
-        (&[0], 0, Err(2)),
-        (&[0, 0], 1, Err(3)),
-        (&[0xFF, 0xFF], 0, Err(65_537)),
-    ];
-    for (bytes, start, wanted) in rows {
-        let wanted = wanted.map_err(|position| Refusal {
-            number: 2,
-            position,
-        });
-        assert_eq!(read_entry(bytes, start), wanted, "{bytes:?}");
-    }
-    report("entries", rows.len() as u64);
+    let read = |bytes: &[u8], start| {
+        read_entry(bytes, start)
+            .map(|place| (place.start, place.len))
+            .map_err(refusal)
+    };
+    report_rows("entries", rows::entries(read), 7);
 }
-
-/// A leaf that writes a part, or ignores it and writes a number.
-type Writer = fn(&mut [u8], u64, &[u8]) -> Result<u64, Refusal>;
 
 #[test]
 fn writes_keep_what_they_do_not_fill() {
-    let mut compared = 0;
-    let parts: [&[u8]; 4] = [&[], &[1], &[1, 2, 3], &[0xAA; 9]];
-    for at in [0u64, 1, 5, 7, 8, 9, 1 << 32, u64::MAX - 1, u64::MAX] {
-        for part in parts {
-            let mut entry = (part.len() as u16).to_be_bytes().to_vec();
-            entry.extend_from_slice(part);
-            let writers: [(&[u8], Writer); 4] = [
-                (part, write_bytes),
-                (&entry, write_entry),
-                (&[0x12, 0x34], |out, at, _| write_u16(out, at, 0x1234)),
-                (&[0x12, 0x34, 0x56, 0x78], |out, at, _| {
-                    write_u32(out, at, 0x1234_5678)
-                }),
-            ];
-            for (image, write) in writers {
-                let mut out = [0xEE; 8];
-                let answer = write(&mut out, at, part);
-                let end = u128::from(at) + image.len() as u128;
-                let mut wanted = [0xEE; 8];
-                if end <= 8 {
-                    wanted[at as usize..end as usize].copy_from_slice(image);
-                    assert_eq!(answer, Ok(end as u64));
-                } else {
-                    assert_eq!(
-                        answer,
-                        Err(Refusal {
-                            number: 28,
-                            position: 0
-                        })
-                    );
-                }
-                assert_eq!(out, wanted);
-                compared += 1;
-            }
-        }
-    }
-    let mut out = vec![0xEE; 70_000];
-    assert_eq!(write_entry(&mut out, 0, &[0; 65_535]), Ok(65_537));
-    assert_eq!(
-        write_entry(&mut out, 0, &[1; 65_536]),
-        Err(Refusal {
-            number: 27,
-            position: 0
-        })
-    );
-    assert_eq!(out[..4], [0xFF, 0xFF, 0, 0]);
-    report("leaf writes", compared + 2);
+    use rows::writes_keep_what_they_do_not_fill as keeps;
+    let entry = |out: &mut [u8], at, part: &[u8]| write_entry(out, at, part).map_err(refusal);
+    let bytes = |out: &mut [u8], at, part: &[u8]| write_bytes(out, at, part).map_err(refusal);
+    let two = |out: &mut [u8], at, _: &[u8]| write_u16(out, at, 0x1234).map_err(refusal);
+    let four = |out: &mut [u8], at, _: &[u8]| write_u32(out, at, 0x1234_5678).map_err(refusal);
+    let rows = keeps(<[u8]>::to_vec, bytes)
+        + keeps(rows::entry, entry)
+        + keeps(|_| vec![0x12, 0x34], two)
+        + keeps(|_| vec![0x12, 0x34, 0x56, 0x78], four);
+    report_rows("leaf writes", rows + rows::the_longest_entry(entry), 146);
 }
 
 #[test]

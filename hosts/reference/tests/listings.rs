@@ -2,75 +2,23 @@
 
 mod common;
 
-use common::report;
-use generator::fields::{fields, Fields};
-use generator::headers::{header_h, hex};
+use common::{report, report_rows};
+use generator::fields::fields;
 use generator::image::Form;
 use generator::random::Random;
+use generator::rows::listings::{self, formatted};
 use reference::{host_answer, listing};
-
-fn refused(number: u32, position: u64) -> Vec<u8> {
-    format!("refused\t{number}\t{position}\n").into_bytes()
-}
 
 #[test]
 fn header_h_is_listed() {
-    let wanted = "header\t1\t80\t0178\t02\t4096\t58\n\
-                  id\t000102030405060708090a0b0c0d0e0f\n\
-                  pair\t6c616e67\t6379\n\
-                  key\t7031\t61\taabbcc\n";
-    assert_eq!(listing(&header_h()), wanted.as_bytes());
-    assert_eq!(host_answer(&header_h(), 0), (0, 58));
-    report("header H listed", 1);
+    let rows = listings::header_h_is_listed(listing, host_answer);
+    report_rows("header H listed", rows, 1);
 }
 
 #[test]
 fn refusals_are_listed() {
-    let h = header_h();
-    let mut zero = h.clone();
-    zero[56] = 0;
-    let mut compared = 0;
-    for (message, wanted) in [
-        (&h[..57], refused(2, 58)),
-        (&h[..22], refused(2, 34)),
-        (&[][..], refused(2, 1)),
-        (&zero[..], refused(20, 0)),
-        (&[0][..], refused(3, 0)),
-    ] {
-        assert_eq!(listing(message), wanted);
-        compared += 1;
-    }
-    report("refusals listed", compared);
-}
-
-/// A listing by string formatting.
-fn formatted(fields: &Fields, tail: usize) -> Vec<u8> {
-    let hex = |bytes: &[u8]| {
-        bytes
-            .iter()
-            .map(|byte| format!("{byte:02x}"))
-            .collect::<String>()
-    };
-    let mut text = format!(
-        "header\t{}\t{:02x}\t{:04x}\t{:02x}\t{}\t{}\nid\t{}\n",
-        fields.version,
-        fields.message_type,
-        fields.suite,
-        fields.content_type,
-        fields.frame_length,
-        tail,
-        hex(&fields.id)
-    );
-    for (key, value) in &fields.pairs {
-        text += &format!("pair\t{}\t{}\n", hex(key), hex(value));
-    }
-    for [provider, info, cipher] in &fields.keys {
-        text += &format!("key\t{}\t{}\t{}\n", hex(provider), hex(info), hex(cipher));
-    }
-    if fields.version == 2 {
-        text += &format!("data\t{}\n", hex(&fields.suite_data));
-    }
-    text.into_bytes()
+    let rows = listings::refusals_are_listed(listing);
+    report_rows("refusals listed", rows, 5);
 }
 
 #[test]
@@ -94,54 +42,9 @@ fn generated_headers_are_listed() {
     report("generated headers listed", SEEDS);
 }
 
-/// H with other counts of pairs and keys, each pair's key of two bytes.
-fn counted(pairs: usize, keys: usize) -> Fields {
-    let mut random = Random::new(1);
-    let mut fields = fields(&mut random);
-    fields.pairs = (0..pairs)
-        .map(|i| {
-            (
-                vec![b'0' + (i / 64) as u8, b'0' + (i % 64) as u8],
-                Vec::new(),
-            )
-        })
-        .collect();
-    fields.keys = vec![[b"p".to_vec(), Vec::new(), hex("AA")]; keys];
-    fields
-}
-
 #[test]
 fn the_listings_tables_and_input_have_limits() {
-    let mut compared = 0;
-    for (pairs, keys, wanted) in [
-        (1024, 682, None),
-        (1025, 682, Some(refused(22, 0))),
-        (1024, 683, Some(refused(23, 0))),
-        (1025, 683, Some(refused(22, 0))),
-    ] {
-        let fields = counted(pairs, keys);
-        let message = fields.image(Form::Today).bytes;
-        let wanted = wanted.unwrap_or_else(|| formatted(&fields, message.len()));
-        assert_eq!(listing(&message), wanted, "{pairs} pairs, {keys} keys");
-        compared += 1;
-    }
-    // A header that ends at byte 65,536 is listed, one byte more is cut off.
-    for more in [0, 1] {
-        let mut fields = counted(3, 2);
-        let room = 65_536 + more - fields.image(Form::Today).bytes.len();
-        fields.keys[0][2].resize(1 + room, 0x55);
-        let mut message = fields.image(Form::Today).bytes;
-        let end = message.len();
-        assert_eq!(end, 65_536 + more);
-        message.extend([0xFF; 100]);
-        let wanted = if more == 0 {
-            formatted(&fields, end)
-        } else {
-            refused(2, end as u64)
-        };
-        assert_eq!(listing(&message), wanted);
-        assert_eq!(host_answer(&message, 0), (0, end as u64));
-        compared += 2;
-    }
-    report("limits of the listing", compared);
+    let rows = listings::the_listings_tables_have_limits(listing)
+        + listings::the_programs_input_has_a_limit(listing, host_answer);
+    report_rows("limits of the listing", rows, 8);
 }

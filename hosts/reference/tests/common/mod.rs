@@ -1,9 +1,9 @@
 //! What the tests share.
 #![allow(dead_code)]
 
+pub mod codec;
 pub mod plain;
 
-use generator::headers::hex;
 use reference::{Mode, Refusal};
 
 pub fn mode(strict: bool) -> Mode {
@@ -12,15 +12,6 @@ pub fn mode(strict: bool) -> Mode {
     } else {
         Mode::Tolerant
     }
-}
-
-/// A header of version 2 with an empty context and one key; 85 bytes.
-pub fn header_v2() -> Vec<u8> {
-    let mut bytes = hex("02 05 78");
-    bytes.extend(32..64u8);
-    bytes.extend(hex("00 00 00 01 00 01 70 00 00 00 02 AA BB 01 00 00 00 00"));
-    bytes.extend(64..96u8);
-    bytes
 }
 
 /// A refusal as a row writes it: number and position.
@@ -52,4 +43,10 @@ pub fn key_parts(keys: &[generator::Key]) -> Vec<&[u8]> {
 /// Says how many cases a test compared; none is a failure.
 pub fn report(name: &str, compared: u64) {
     report::compared(compared, &format!("of the reference: {name}"));
+}
+
+/// Says how many rows a test held; none may be lost.
+pub fn report_rows(name: &str, rows: u64, wanted: u64) {
+    assert_eq!(rows, wanted, "{name}");
+    report(name, rows);
 }

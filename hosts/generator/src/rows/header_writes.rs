@@ -1,0 +1,83 @@
+//! Whole headers written.
+
+use super::headers::header_v2;
+use super::{Asked, Codec, Lent, Written};
+use crate::headers::header_h;
+
+pub fn header_v2_is_read_and_written(codec: &impl Codec) -> u64 {
+    let v2 = header_v2();
+    let (mut pairs, mut keys) = ([0; 4], [0; 6]);
+    for version in [0, 2] {
+        let body = codec
+            .read_body(&v2, Asked::new(version, true), &mut pairs, &mut keys)
+            .unwrap();
+        assert_eq!(body.id, (3, 32));
+        let [_, message_type, _, _, iv_length, frame_length] = body.numbers;
+        assert_eq!((message_type, iv_length, frame_length), (0, 0, 0));
+        assert_eq!(body.suite_data, (53, 32));
+        assert_eq!(body.tail, v2.len() as u64);
+        let lent = Lent {
+            numbers: body.numbers,
+            id: &v2[3..35],
+            suite_data: &v2[53..],
+            text: &v2,
+            pairs: &[],
+            keys: &keys,
+        };
+        let mut out = [0xEE; 100];
+        assert_eq!(codec.write_body(lent, &mut out), Ok(v2.len() as u64));
+        assert_eq!(out[..v2.len()], v2);
+    }
+    let other = codec.read_body(&v2, Asked::new(1, false), &mut pairs, &mut keys);
+    assert_eq!(other, Err((4, 0)));
+    3
+}
+
+/// Numbers, ID, suite data, and the refusal.
+type Row<'a> = ([u32; 6], &'a [u8], &'a [u8], u32);
+
+/// Version, type, suite, content type, IV length and frame length of H.
+const RIGHT: [u32; 6] = [1, 0x80, 0x0178, 2, 12, 4096];
+
+pub fn header_h_is_written_with_each_fault(codec: &impl Codec) -> u64 {
+    let h = header_h();
+    let write = |numbers: [u32; 6], id: &[u8], suite_data: &[u8], room: usize| -> Written {
+        let lent = Lent {
+            numbers,
+            id,
+            suite_data,
+            text: &h,
+            pairs: &[26, 4, 32, 2],
+            keys: &[38, 2, 42, 1, 45, 3],
+        };
+        let mut out = vec![0xEE; room];
+        let answer = codec.write_body(lent, &mut out);
+        match answer {
+            Ok(length) => assert_eq!((length, &out[..58]), (58, &h[..])),
+            Err(_) => assert!(out.iter().all(|&byte| byte == 0xEE)),
+        }
+        answer
+    };
+    let id = &h[4..20];
+    assert_eq!(write(RIGHT, id, &[], 58), Ok(58));
+    assert_eq!(write(RIGHT, id, &[], 57), Err((28, 0)));
+    let rows: [Row; 13] = [
+        ([0, 0x80, 0x0178, 2, 12, 4096], id, &[], 3),
+        ([2, 0x80, 0x0178, 2, 12, 4096], id, &[], 5),
+        ([2, 0, 0x0178, 2, 12, 4096], id, &[], 7),
+        ([1, 0, 0x0178, 2, 12, 4096], id, &[], 5),
+        ([1, 0x80, 0x0179, 2, 12, 4096], id, &[], 6),
+        ([1, 0x80, 0x0478, 2, 12, 4096], id, &[], 7),
+        (RIGHT, &h[4..19], &[], 24),
+        (RIGHT, &h[4..36], &[], 24),
+        ([1, 0x80, 0x0178, 3, 12, 4096], id, &[], 17),
+        ([1, 0x80, 0x0178, 2, 0, 4096], id, &[], 19),
+        (RIGHT, id, &h[..32], 25),
+        ([1, 0x80, 0x0178, 1, 12, 4096], id, &[], 20),
+        ([1, 0x80, 0x0178, 2, 12, 0], id, &[], 20),
+    ];
+    for (row, (numbers, id, data, number)) in rows.into_iter().enumerate() {
+        assert_eq!(write(numbers, id, data, 0), Err((number, 0)), "row {row}");
+    }
+    rows.len() as u64 + 2
+}

@@ -1,0 +1,134 @@
+//! Listings, byte for byte, and what a host is told.
+
+use crate::fields::{fields, Fields};
+use crate::headers::{header_h, hex};
+use crate::image::Form;
+use crate::random::Random;
+
+/// The listing of a message.
+pub trait List: Fn(&[u8]) -> Vec<u8> {}
+
+impl<F: Fn(&[u8]) -> Vec<u8>> List for F {}
+
+/// What a host is told of a message and a start: number and position.
+pub trait Host: Fn(&[u8], u64) -> (u32, u64) {}
+
+impl<F: Fn(&[u8], u64) -> (u32, u64)> Host for F {}
+
+/// The line of a refusal.
+pub fn refused(number: u32, position: u64) -> Vec<u8> {
+    format!("refused\t{number}\t{position}\n").into_bytes()
+}
+
+pub fn header_h_is_listed(listing: impl List, host_answer: impl Host) -> u64 {
+    let wanted = "header\t1\t80\t0178\t02\t4096\t58\n\
+                  id\t000102030405060708090a0b0c0d0e0f\n\
+                  pair\t6c616e67\t6379\n\
+                  key\t7031\t61\taabbcc\n";
+    assert_eq!(listing(&header_h()), wanted.as_bytes());
+    assert_eq!(host_answer(&header_h(), 0), (0, 58));
+    1
+}
+
+pub fn refusals_are_listed(listing: impl List) -> u64 {
+    let h = header_h();
+    let mut zero = h.clone();
+    zero[56] = 0;
+    let rows = [
+        (&h[..57], refused(2, 58)),
+        (&h[..22], refused(2, 34)),
+        (&[][..], refused(2, 1)),
+        (&zero[..], refused(20, 0)),
+        (&[0][..], refused(3, 0)),
+    ];
+    for (message, wanted) in &rows {
+        assert_eq!(listing(message), *wanted);
+    }
+    rows.len() as u64
+}
+
+/// A listing by string formatting.
+pub fn formatted(fields: &Fields, tail: usize) -> Vec<u8> {
+    let hex = |bytes: &[u8]| {
+        bytes
+            .iter()
+            .map(|byte| format!("{byte:02x}"))
+            .collect::<String>()
+    };
+    let mut text = format!(
+        "header\t{}\t{:02x}\t{:04x}\t{:02x}\t{}\t{}\nid\t{}\n",
+        fields.version,
+        fields.message_type,
+        fields.suite,
+        fields.content_type,
+        fields.frame_length,
+        tail,
+        hex(&fields.id)
+    );
+    for (key, value) in &fields.pairs {
+        text += &format!("pair\t{}\t{}\n", hex(key), hex(value));
+    }
+    for [provider, info, cipher] in &fields.keys {
+        text += &format!("key\t{}\t{}\t{}\n", hex(provider), hex(info), hex(cipher));
+    }
+    if fields.version == 2 {
+        text += &format!("data\t{}\n", hex(&fields.suite_data));
+    }
+    text.into_bytes()
+}
+
+/// H with other counts of pairs and keys, each pair's key of two bytes.
+fn counted(pairs: usize, keys: usize) -> Fields {
+    let mut random = Random::new(1);
+    let mut fields = fields(&mut random);
+    fields.pairs = (0..pairs)
+        .map(|i| {
+            (
+                vec![b'0' + (i / 64) as u8, b'0' + (i % 64) as u8],
+                Vec::new(),
+            )
+        })
+        .collect();
+    fields.keys = vec![[b"p".to_vec(), Vec::new(), hex("AA")]; keys];
+    fields
+}
+
+/// The tables hold 1,024 pairs and 682 keys.
+pub fn the_listings_tables_have_limits(listing: impl List) -> u64 {
+    let rows = [
+        (1024, 682, None),
+        (1025, 682, Some(refused(22, 0))),
+        (1024, 683, Some(refused(23, 0))),
+        (1025, 683, Some(refused(22, 0))),
+    ];
+    let count = rows.len() as u64;
+    for (pairs, keys, wanted) in rows {
+        let fields = counted(pairs, keys);
+        let message = fields.image(Form::Today).bytes;
+        let wanted = wanted.unwrap_or_else(|| formatted(&fields, message.len()));
+        assert_eq!(listing(&message), wanted, "{pairs} pairs, {keys} keys");
+    }
+    count
+}
+
+/// A header that ends at byte 65,536 is listed, one byte more is cut off;
+/// a host's bytes are taken whole.
+pub fn the_programs_input_has_a_limit(listing: impl List, host_answer: impl Host) -> u64 {
+    for more in [0, 1] {
+        let mut fields = counted(3, 2);
+        let room = 65_536 + more - fields.image(Form::Today).bytes.len();
+        fields.keys[0][2].resize(1 + room, 0x55);
+        let mut message = fields.image(Form::Today).bytes;
+        let end = message.len();
+        assert_eq!(end, 65_536 + more);
+        message.extend([0xFF; 100]);
+        let wanted = if more == 0 {
+            formatted(&fields, end)
+        } else {
+            refused(2, end as u64)
+        };
+        assert_eq!(listing(&message), wanted);
+        assert_eq!(host_answer(&message, 0), (0, end as u64));
+    }
+    4
+}

@@ -1,0 +1,97 @@
+//! Rows written by hand from document 01: an input, and the answer that it
+//! has to get.
+//!
+//! Each function takes what it holds the rows against, so that one table is
+//! there for the separate implementation and for ours. It answers how many
+//! rows it held.
+
+pub mod header_writes;
+pub mod headers;
+pub mod leaves;
+pub mod listings;
+pub mod records;
+pub mod section_writes;
+pub mod sections;
+pub mod sizes;
+
+/// A refusal: number and position.
+pub type Refused = (u32, u64);
+
+/// A section that was read: pairs or keys, and the tail.
+pub type Section = Result<(u32, u64), Refused>;
+
+/// A place: start and length.
+pub type Place = (u64, u64);
+
+/// What a writer answers: the length.
+pub type Written = Result<u64, Refused>;
+
+/// A body that was read.
+#[derive(Clone, Copy, Debug, PartialEq, Eq)]
+pub struct Body {
+    /// Version, type, suite, content type, IV length and frame length.
+    pub numbers: [u32; 6],
+    pub id: Place,
+    pub pairs: u32,
+    pub keys: u32,
+    pub suite_data: Place,
+    pub tail: u64,
+}
+
+/// What a body reader is asked for.
+#[derive(Clone, Copy, Debug)]
+pub struct Asked {
+    pub start: u64,
+    /// 1 or 2, or 0 for either.
+    pub version: u32,
+    pub strict: bool,
+    pub max: Option<u64>,
+}
+
+impl Asked {
+    pub fn new(version: u32, strict: bool) -> Asked {
+        Asked {
+            start: 0,
+            version,
+            strict,
+            max: None,
+        }
+    }
+}
+
+/// A record that was read: IV, tag and tail.
+pub type Record = Result<([u8; 12], [u8; 16], u64), Refused>;
+
+/// What a body writer is lent beside the output.
+#[derive(Clone, Copy, Debug)]
+pub struct Lent<'a> {
+    /// In the order of [`Body::numbers`].
+    pub numbers: [u32; 6],
+    pub id: &'a [u8],
+    pub suite_data: &'a [u8],
+    pub text: &'a [u8],
+    pub pairs: &'a [u32],
+    pub keys: &'a [u32],
+}
+
+/// What the rows are held against. Tables and outputs are lent and filled.
+pub trait Codec {
+    fn read_section(&self, message: &[u8], start: u64, strict: bool, table: &mut [u32]) -> Section;
+    fn read_keys(&self, message: &[u8], start: u64, max: Option<u64>, table: &mut [u32])
+        -> Section;
+    fn read_body(
+        &self,
+        message: &[u8],
+        asked: Asked,
+        pairs: &mut [u32],
+        keys: &mut [u32],
+    ) -> Result<Body, Refused>;
+    fn read_record(&self, message: &[u8], start: u64, suite: u32) -> Record;
+    fn find(&self, message: &[u8], start: u64, key: &[u8]) -> Result<Place, Refused>;
+    fn find_part<'a>(&self, message: &'a [u8], start: u64, key: &[u8]) -> &'a [u8];
+    fn host_answer(&self, message: &[u8], start: u64) -> (u32, u64);
+    fn write_section(&self, text: &[u8], table: &[u32], out: &mut [u8]) -> Written;
+    fn write_keys(&self, text: &[u8], table: &[u32], out: &mut [u8]) -> Written;
+    fn write_body(&self, lent: Lent, out: &mut [u8]) -> Written;
+    fn write_record(&self, suite: u32, iv: &[u8], tag: &[u8], out: &mut [u8]) -> Written;
+}

@@ -1,0 +1,110 @@
+//! The separate implementation, as the rows ask it.
+
+use super::{mode, refusal};
+use generator::rows::{Asked, Body, Codec, Lent, Place, Record, Refused, Section, Written};
+use reference::*;
+
+pub struct Reference;
+
+fn place(place: reference::Place) -> Place {
+    (place.start, place.len)
+}
+
+fn body(body: reference::Body) -> Body {
+    Body {
+        numbers: [
+            body.version,
+            body.message_type,
+            body.suite,
+            body.content_type,
+            body.iv_length,
+            body.frame_length,
+        ],
+        id: place(body.id),
+        pairs: body.pairs,
+        keys: body.keys,
+        suite_data: place(body.suite_data),
+        tail: body.tail,
+    }
+}
+
+impl Codec for Reference {
+    fn read_section(&self, message: &[u8], start: u64, strict: bool, table: &mut [u32]) -> Section {
+        read_aad_section(message, start, mode(strict), table)
+            .map(|read| (read.pairs, read.tail))
+            .map_err(refusal)
+    }
+
+    fn read_keys(
+        &self,
+        message: &[u8],
+        start: u64,
+        max: Option<u64>,
+        table: &mut [u32],
+    ) -> Section {
+        read_encrypted_data_keys_section(message, start, max, table)
+            .map(|read| (read.keys, read.tail))
+            .map_err(refusal)
+    }
+
+    fn read_body(
+        &self,
+        message: &[u8],
+        asked: Asked,
+        pairs: &mut [u32],
+        keys: &mut [u32],
+    ) -> Result<Body, Refused> {
+        let which = match asked.version {
+            0 => Which::Either,
+            1 => Which::V1,
+            _ => Which::V2,
+        };
+        let mode = mode(asked.strict);
+        read_header_body(message, asked.start, which, mode, asked.max, pairs, keys)
+            .map(body)
+            .map_err(refusal)
+    }
+
+    fn read_record(&self, message: &[u8], start: u64, suite: u32) -> Record {
+        read_header_auth_tag(message, start, suite)
+            .map(|record| (record.iv, record.tag, record.tail))
+            .map_err(refusal)
+    }
+
+    fn find(&self, message: &[u8], start: u64, key: &[u8]) -> Result<Place, Refused> {
+        find(message, start, key).map(place).map_err(refusal)
+    }
+
+    fn find_part<'a>(&self, message: &'a [u8], start: u64, key: &[u8]) -> &'a [u8] {
+        find_part(message, start, key)
+    }
+
+    fn host_answer(&self, message: &[u8], start: u64) -> (u32, u64) {
+        host_answer(message, start)
+    }
+
+    fn write_section(&self, text: &[u8], table: &[u32], out: &mut [u8]) -> Written {
+        write_aad_section(text, table, out).map_err(refusal)
+    }
+
+    fn write_keys(&self, text: &[u8], table: &[u32], out: &mut [u8]) -> Written {
+        write_encrypted_data_keys_section(text, table, out).map_err(refusal)
+    }
+
+    fn write_body(&self, lent: Lent, out: &mut [u8]) -> Written {
+        write_header_body(
+            &Numbers::from(lent.numbers),
+            lent.id,
+            lent.suite_data,
+            lent.text,
+            lent.pairs,
+            lent.keys,
+            out,
+        )
+        .map_err(refusal)
+    }
+
+    fn write_record(&self, suite: u32, iv: &[u8], tag: &[u8], out: &mut [u8]) -> Written {
+        write_header_auth_tag(suite, iv, tag, out).map_err(refusal)
+    }
+}
