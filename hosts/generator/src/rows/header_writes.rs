@@ -1,8 +1,9 @@
 //! Whole headers written.
 
 use super::headers::header_v2;
-use super::{Asked, Codec, Lent, Written};
+use super::{Asked, Codec, Lent};
 use crate::headers::header_h;
+use std::ops::Range;
 
 pub fn header_v2_is_read_and_written(codec: &impl Codec) -> u64 {
     let v2 = header_v2();
@@ -33,19 +34,35 @@ pub fn header_v2_is_read_and_written(codec: &impl Codec) -> u64 {
     3
 }
 
-/// Numbers, ID, suite data, and the refusal.
-type Row<'a> = ([u32; 6], &'a [u8], &'a [u8], u32);
-
 /// Version, type, suite, content type, IV length and frame length of H.
 const RIGHT: [u32; 6] = [1, 0x80, 0x0178, 2, 12, 4096];
 
+/// Numbers, the ID and the suite data as parts of H, and the refusal.
+type Row = ([u32; 6], Range<usize>, Range<usize>, u32);
+
+const FAULTS: [Row; 13] = [
+    ([0, 0x80, 0x0178, 2, 12, 4096], 4..20, 0..0, 3),
+    ([2, 0x80, 0x0178, 2, 12, 4096], 4..20, 0..0, 5),
+    ([2, 0, 0x0178, 2, 12, 4096], 4..20, 0..0, 7),
+    ([1, 0, 0x0178, 2, 12, 4096], 4..20, 0..0, 5),
+    ([1, 0x80, 0x0179, 2, 12, 4096], 4..20, 0..0, 6),
+    ([1, 0x80, 0x0478, 2, 12, 4096], 4..20, 0..0, 7),
+    (RIGHT, 4..19, 0..0, 24),
+    (RIGHT, 4..36, 0..0, 24),
+    ([1, 0x80, 0x0178, 3, 12, 4096], 4..20, 0..0, 17),
+    ([1, 0x80, 0x0178, 2, 0, 4096], 4..20, 0..0, 19),
+    (RIGHT, 4..20, 0..32, 25),
+    ([1, 0x80, 0x0178, 1, 12, 4096], 4..20, 0..0, 20),
+    ([1, 0x80, 0x0178, 2, 12, 0], 4..20, 0..0, 20),
+];
+
 pub fn header_h_is_written_with_each_fault(codec: &impl Codec) -> u64 {
     let h = header_h();
-    let write = |numbers: [u32; 6], id: &[u8], suite_data: &[u8], room: usize| -> Written {
+    let write = |numbers: [u32; 6], id: Range<usize>, suite_data: Range<usize>, room: usize| {
         let lent = Lent {
             numbers,
-            id,
-            suite_data,
+            id: &h[id],
+            suite_data: &h[suite_data],
             text: &h,
             pairs: &[26, 4, 32, 2],
             keys: &[38, 2, 42, 1, 45, 3],
@@ -58,26 +75,10 @@ pub fn header_h_is_written_with_each_fault(codec: &impl Codec) -> u64 {
         }
         answer
     };
-    let id = &h[4..20];
-    assert_eq!(write(RIGHT, id, &[], 58), Ok(58));
-    assert_eq!(write(RIGHT, id, &[], 57), Err((28, 0)));
-    let rows: [Row; 13] = [
-        ([0, 0x80, 0x0178, 2, 12, 4096], id, &[], 3),
-        ([2, 0x80, 0x0178, 2, 12, 4096], id, &[], 5),
-        ([2, 0, 0x0178, 2, 12, 4096], id, &[], 7),
-        ([1, 0, 0x0178, 2, 12, 4096], id, &[], 5),
-        ([1, 0x80, 0x0179, 2, 12, 4096], id, &[], 6),
-        ([1, 0x80, 0x0478, 2, 12, 4096], id, &[], 7),
-        (RIGHT, &h[4..19], &[], 24),
-        (RIGHT, &h[4..36], &[], 24),
-        ([1, 0x80, 0x0178, 3, 12, 4096], id, &[], 17),
-        ([1, 0x80, 0x0178, 2, 0, 4096], id, &[], 19),
-        (RIGHT, id, &h[..32], 25),
-        ([1, 0x80, 0x0178, 1, 12, 4096], id, &[], 20),
-        ([1, 0x80, 0x0178, 2, 12, 0], id, &[], 20),
-    ];
-    for (row, (numbers, id, data, number)) in rows.into_iter().enumerate() {
+    assert_eq!(write(RIGHT, 4..20, 0..0, 58), Ok(58));
+    assert_eq!(write(RIGHT, 4..20, 0..0, 57), Err((28, 0)));
+    for (row, (numbers, id, data, number)) in FAULTS.into_iter().enumerate() {
         assert_eq!(write(numbers, id, data, 0), Err((number, 0)), "row {row}");
     }
-    rows.len() as u64 + 2
+    FAULTS.len() as u64 + 2
 }

@@ -90,36 +90,42 @@ pub fn an_empty_context_has_two_forms(codec: &impl Codec) -> u64 {
     compared
 }
 
+/// Version, place, byte, either-version reader, one-version reader.
+type Field = (u32, usize, u8, u32, u32);
+
+const FIELDS: [Field; 19] = [
+    (1, 0, 0, 3, 3),
+    (1, 0, 3, 3, 3),
+    (1, 0, 2, 6, 4),
+    (1, 1, 0x81, 5, 5),
+    (1, 3, 0x79, 6, 6),
+    (1, 2, 0x04, 7, 7),
+    (1, 2, 0x05, 7, 7),
+    (1, 48, 0, 17, 17),
+    (1, 48, 3, 17, 17),
+    (1, 48, 1, 20, 0),
+    (1, 49, 1, 18, 18),
+    (1, 52, 1, 18, 18),
+    (1, 53, 13, 19, 19),
+    (1, 56, 0, 20, 0),
+    (2, 0, 1, 5, 4),
+    (2, 1, 0x01, 7, 7),
+    (2, 2, 0x79, 6, 6),
+    (2, 48, 2, 20, 0),
+    (2, 52, 1, 20, 0),
+];
+
 /// H or the header of version 2 with one byte set: the refusal of each field,
 /// by the readers of either version and of one.
 pub fn each_field_is_tested(codec: &impl Codec) -> u64 {
-    let (h, v2) = (header_h(), header_v2());
-    // Base, place, byte, either-version reader, one-version reader.
-    let rows: [(&[u8], usize, u8, u32, u32); 19] = [
-        (&h, 0, 0, 3, 3),
-        (&h, 0, 3, 3, 3),
-        (&h, 0, 2, 6, 4),
-        (&h, 1, 0x81, 5, 5),
-        (&h, 3, 0x79, 6, 6),
-        (&h, 2, 0x04, 7, 7),
-        (&h, 2, 0x05, 7, 7),
-        (&h, 48, 0, 17, 17),
-        (&h, 48, 3, 17, 17),
-        (&h, 48, 1, 20, 0),
-        (&h, 49, 1, 18, 18),
-        (&h, 52, 1, 18, 18),
-        (&h, 53, 13, 19, 19),
-        (&h, 56, 0, 20, 0),
-        (&v2, 0, 1, 5, 4),
-        (&v2, 1, 0x01, 7, 7),
-        (&v2, 2, 0x79, 6, 6),
-        (&v2, 48, 2, 20, 0),
-        (&v2, 52, 1, 20, 0),
-    ];
-    for (row, (base, at, byte, either, one)) in rows.into_iter().enumerate() {
-        let mut message = base.to_vec();
+    for (row, (version, at, byte, either, one)) in FIELDS.into_iter().enumerate() {
+        let mut message = if version == 1 {
+            header_h()
+        } else {
+            header_v2()
+        };
         message[at] = byte;
-        for (version, number) in [(0, either), (u32::from(base[0]), one)] {
+        for (version, number) in [(0, either), (version, one)] {
             let answer = read(codec, &message, Asked::new(version, false));
             match number {
                 0 => assert!(answer.is_ok(), "row {row}: {answer:?}"),
@@ -127,7 +133,7 @@ pub fn each_field_is_tested(codec: &impl Codec) -> u64 {
             }
         }
     }
-    2 * rows.len() as u64
+    2 * FIELDS.len() as u64
 }
 
 pub fn tables_are_tested_last(codec: &impl Codec) -> u64 {
