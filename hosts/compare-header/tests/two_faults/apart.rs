@@ -14,6 +14,7 @@ pub const NAMED: &[(&str, &str, &str)] = &[
     ("21 old form", "9 no pairs", "the length is 2, or another"),
     ("9 no pairs", "2 key 1 length", "a count of 0 has no pairs"),
     ("20 framed", "20 non-framed", "there is one content type"),
+    ("29 key", "28 output", "there is no value to be too long"),
     ("26 pairs in fours", "26 pair place", "one test"),
     ("26 keys in sixes", "26 key place", "one test"),
     ("27 pair count", "27 pair part", "one test"),

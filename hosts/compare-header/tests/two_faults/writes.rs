@@ -11,25 +11,43 @@ type Faults = Vec<Fault<WriteDraft>>;
 /// Parts of a table are counted from 0: the key and the value of a pair, the
 /// three of a key.
 fn pairs() -> Faults {
-    vec![
+    let mut list = vec![
         write("26 pairs in fours", |d| d.pairs.push(0)),
         write("26 pair place", |d| {
-            WriteDraft::outside(&mut d.pairs, 4, &d.text)
+            WriteDraft::outside(&mut d.pairs, 6, &d.text)
         }),
         write("27 pair count", |d| WriteDraft::too_many(&mut d.pairs, 4)),
         write("27 pair part", |d| {
-            WriteDraft::long_part(&mut d.pairs, 5, 65_536)
+            WriteDraft::long_part(&mut d.pairs, 7, 65_536)
         }),
-        write("10 key 1", |d| WriteDraft::bad_part(&mut d.pairs, 0)),
-        write("11 value 1", |d| WriteDraft::bad_part(&mut d.pairs, 1)),
-        write("10 key 2", |d| WriteDraft::bad_part(&mut d.pairs, 2)),
-        write("11 value 2", |d| WriteDraft::bad_part(&mut d.pairs, 3)),
-        write("12 key 2", |d| d.pairs.copy_within(0..2, 4)),
-        // Two pairs of 12 bytes, and one of 8 and this value: 65,534.
-        write("13 pairs", |d| {
-            WriteDraft::long_part(&mut d.pairs, 5, 65_502)
+    ];
+    for at in 0..3 {
+        list.extend(pair(at));
+    }
+    // Three pairs of 12 bytes, and one of 8 and this value: 65,534.
+    list.push(write("13 pairs", |d| {
+        WriteDraft::long_part(&mut d.pairs, 7, 65_490)
+    }));
+    list
+}
+
+/// The tests of one pair. The first has no earlier key, so never 12.
+fn pair(at: usize) -> Faults {
+    let name = |what: &str| format!("{what} {}", at + 1);
+    let mut list = vec![
+        write(&name("10 key"), move |d| {
+            WriteDraft::bad_part(&mut d.pairs, 2 * at)
         }),
-    ]
+        write(&name("11 value"), move |d| {
+            WriteDraft::bad_part(&mut d.pairs, 2 * at + 1)
+        }),
+    ];
+    if at > 0 {
+        list.push(write(&name("12 key"), move |d| {
+            d.pairs.copy_within(4 * at - 4..4 * at - 2, 4 * at)
+        }));
+    }
+    list
 }
 
 fn keys() -> Faults {

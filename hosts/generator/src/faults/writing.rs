@@ -6,7 +6,7 @@ use crate::fields::{back, front};
 use crate::image::{keys, section, Form};
 use crate::{Key, Pair};
 
-/// Three pairs and two keys, of parts of four bytes, and an output that just
+/// Four pairs and two keys, of parts of four bytes, and an output that just
 /// holds what is written. A fault of a table stands in the last pair or key,
 /// those of texts before it, so that none hides another.
 #[derive(Clone, Debug)]
@@ -22,7 +22,7 @@ pub struct WriteDraft {
 }
 
 const PART: usize = 4;
-const PARTS: usize = 12;
+const PARTS: usize = 14;
 /// Where the text has no UTF-8.
 const BAD: u32 = (PART * PARTS) as u32;
 /// Where it has 65,536 letters and more.
@@ -52,8 +52,8 @@ impl WriteDraft {
             id: fields.id,
             suite_data: fields.suite_data,
             text,
-            pairs: places(0..6),
-            keys: places(6..12),
+            pairs: places(0..8),
+            keys: places(8..14),
             room: length,
         }
     }
@@ -106,12 +106,12 @@ impl WriteDraft {
 
 fn pairs() -> Vec<Pair> {
     let pair = |two: &[Vec<u8>]| (two[0].clone(), two[1].clone());
-    parts()[..6].chunks(2).map(pair).collect()
+    parts()[..8].chunks(2).map(pair).collect()
 }
 
 fn key_list() -> Vec<Key> {
     let key = |three: &[Vec<u8>]| [three[0].clone(), three[1].clone(), three[2].clone()];
-    parts()[6..].chunks(3).map(key).collect()
+    parts()[8..].chunks(3).map(key).collect()
 }
 
 impl Draft for WriteDraft {
