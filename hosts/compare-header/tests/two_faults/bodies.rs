@@ -1,6 +1,6 @@
 //! Reading a body: either version, and one only; tolerant and strict.
 
-use super::every_pair::{read, Listed, Names};
+use super::every_pair::{number_of, read, Listed, Names};
 use super::sections::{self, key_table, pair_table, too_large, Faults};
 use bafirolen::{Mode, Request, Which};
 use compare_header::numbers::answered;
@@ -115,4 +115,24 @@ fn bodies() {
         });
     }
     answers.assert_complete();
+}
+
+/// A host is told what the tolerant reader of either version answers, with no
+/// maximum and tables that hold all of these.
+#[test]
+fn what_a_host_is_told() {
+    let mut answers = Coverage::default();
+    for reader in &READERS[..2] {
+        let mut listed = body(*reader);
+        listed.operation = "what a host is told";
+        let lent = |name: &str| [15, 22, 23].contains(&number_of(name));
+        listed.list.retain(|fault| !lent(&fault.name));
+        listed.every_pair(&mut answers, |d| {
+            match reads::host_answer(&d.message(), d.start) {
+                (0, _) => (0, 0),
+                refused => refused,
+            }
+        });
+    }
+    assert_eq!(answers.operations(), 1);
 }

@@ -23,13 +23,16 @@ fn operations() -> Vec<Names> {
 
 /// No row is left over there when a list changes.
 #[test]
-fn pairs_that_are_named_apart_are_neighbours() {
+fn pairs_that_are_named_are_neighbours() {
     let operations = operations();
-    for (first, second, _) in apart::NAMED {
+    let named = apart::NAMED.iter().map(|named| (named.0, named.1));
+    for (first, second) in named.chain(apart::SEEN.iter().copied()) {
+        let beside = |names: &Names| {
+            let mut neighbours = names.windows(2);
+            neighbours.any(|two| two[0] == first && two[1] == second)
+        };
         assert!(
-            operations.iter().any(|names| names
-                .windows(2)
-                .any(|two| two[0] == *first && two[1] == *second)),
+            operations.iter().any(beside),
             "no list has {first} before {second}"
         );
     }
