@@ -1,8 +1,9 @@
 //! Seeded generation of message headers and their parts, intact and damaged.
 //!
-//! Every function is determined by its seed. Images are built here, by
-//! concatenation, so that they depend on no codec. Where the damage decides
-//! the answer, the case says which answer is expected.
+//! Every function is determined by its seed; `faults` and `rows`, which are
+//! written by hand, have none. Images are built here, by concatenation, so
+//! that they depend on no codec. Where the damage decides the answer, the case
+//! says which answer is expected.
 #![forbid(unsafe_code)]
 
 pub mod auth_cases;

@@ -3,6 +3,9 @@
 //! Each operation has a table, in document 01's order of tests, of its faults
 //! and of how each is planted. Whatever two faults a request has, the answer
 //! is the one listed first, with its position; mended, it is the other.
+//!
+//! A new refusal is a row at its place in a table, and a number in the
+//! operation's list of `report`, which every table is held against.
 
 mod apart;
 mod bodies;
