@@ -21,7 +21,7 @@ fn pairs() -> Faults {
             WriteDraft::long_part(&mut d.pairs, 7, 65_536)
         }),
     ];
-    for at in 0..3 {
+    for at in 0..4 {
         list.extend(pair(at));
     }
     // Three pairs of 12 bytes, and one of 8 and this value: 65,534.

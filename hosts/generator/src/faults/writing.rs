@@ -7,8 +7,7 @@ use crate::image::{keys, section, Form};
 use crate::{Key, Pair};
 
 /// Four pairs and two keys, of parts of four bytes, and an output that just
-/// holds what is written. A fault of a table stands in the last pair or key,
-/// those of texts before it, so that none hides another.
+/// holds what is written. Texts are spoilt in any of them, tables in the last.
 #[derive(Clone, Debug)]
 pub struct WriteDraft {
     /// Version, type, suite, content type, IV length and frame length.
@@ -97,9 +96,11 @@ impl WriteDraft {
         table[2 * part + 1] = PART as u32;
     }
 
-    /// A part of this length.
+    /// A part of this length; one that isn't UTF-8 stays that.
     pub fn long_part(table: &mut [u32], part: usize, length: u32) {
-        table[2 * part] = LONG;
+        if table[2 * part] != BAD {
+            table[2 * part] = LONG;
+        }
         table[2 * part + 1] = length;
     }
 }
