@@ -16,7 +16,7 @@ pub mod scale;
 pub mod writes;
 
 use bafirolen::{Mode, Request, Which};
-pub use report::{compared, Coverage};
+pub use report::{compared, say, Coverage};
 
 /// The requests that take a version: tolerant and strict, by the reader of
 /// either version and by that of the version alone.

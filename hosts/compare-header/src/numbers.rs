@@ -92,7 +92,10 @@ impl Ours for bafirolen::AuthRecord {
 
 /// The position that a shortage wants, 0 where there is none.
 pub fn position<T>(answer: &Answer<T>) -> u64 {
-    answer.as_ref().err().map_or(0, |refusal| refusal.position)
+    answer
+        .as_ref()
+        .err()
+        .map_or(0, |refusal| refusal.position())
 }
 
 /// The refusal's number and position, zeros where there is none.

@@ -4,7 +4,7 @@ use crate::guarded::Guarded;
 use crate::numbers::{self, auth, body, place, refused, section};
 use crate::numbers::{Answer, AuthRecord, Body, Ours, Section};
 use crate::parts::{keys_are, pairs_are};
-use bafirolen::{Mode, Place, Request};
+use bafirolen::{Mode, Place, Refusal, Request};
 use reference::refusal::OUTPUT;
 use std::fmt::{self, Debug, Formatter};
 

@@ -1,7 +1,7 @@
 //! Two faults of a list at a time.
 
 use super::apart::apart;
-use compare_header::{compared, Coverage};
+use compare_header::{compared, say, Coverage};
 use generator::faults::{Draft, ReadDraft, RecordDraft, WriteDraft};
 use std::collections::BTreeSet;
 
@@ -41,6 +41,8 @@ pub type Names = Vec<String>;
 /// order of tests.
 pub struct Listed<D> {
     pub operation: &'static str,
+    /// The version of the header, where it decides what is listed.
+    pub version: Option<u32>,
     pub sound: D,
     pub list: Vec<Fault<D>>,
 }
@@ -93,12 +95,19 @@ impl<D: Draft> Listed<D> {
         }
         let together = self.assert_neighbours(&seen);
         let neighbours = self.list.len() - 1;
-        compared(
-            seen.len() as u64,
-            &format!(
-                "pairs of faults: {operation}, {together} of {neighbours} neighbours together"
-            ),
-        );
+        say(&format!(
+            "{}: {together} of {neighbours} neighbours hold together",
+            self.what()
+        ));
+        compared(seen.len() as u64, &self.what());
+    }
+
+    fn what(&self) -> String {
+        let operation = self.operation;
+        match self.version {
+            Some(version) => format!("pairs of faults: {operation}, version {version}"),
+            None => format!("pairs of faults: {operation}"),
+        }
     }
 
     /// Every two neighbours were in one request; gives how many of them hold

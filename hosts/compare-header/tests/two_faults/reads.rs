@@ -18,6 +18,7 @@ fn context(mode: Mode) -> Listed<ReadDraft> {
     };
     Listed {
         operation,
+        version: None,
         sound: ReadDraft::context(),
         list,
     }
@@ -30,6 +31,7 @@ fn keys() -> Listed<ReadDraft> {
     list.push(key_table());
     Listed {
         operation: "read keys",
+        version: None,
         sound: ReadDraft::keys(),
         list,
     }
@@ -42,6 +44,7 @@ fn find() -> Listed<ReadDraft> {
     list.push(read("29 key", |d| d.asked = b"lint".to_vec()));
     Listed {
         operation: "find",
+        version: None,
         sound: ReadDraft::context(),
         list,
     }
@@ -69,6 +72,7 @@ fn auth(version: u32) -> Listed<RecordDraft> {
     }
     Listed {
         operation: "read auth",
+        version: Some(version),
         sound: RecordDraft::new(version),
         list,
     }
@@ -97,7 +101,7 @@ fn context_sections() {
             answered(&reads::read_aad_section(&d.message(), d.start, mode, &table).0)
         });
     }
-    answers.assert_complete();
+    answers.assert_complete(["read section tolerant", "read section strict"]);
 }
 
 #[test]
@@ -107,7 +111,7 @@ fn key_sections() {
         let (message, table) = (d.message(), vec![7; d.key_numbers]);
         answered(&reads::read_encrypted_data_keys_section(&message, d.start, d.max, &table).0)
     });
-    answers.assert_complete();
+    answers.assert_complete(["read keys"]);
 }
 
 #[test]
@@ -116,11 +120,12 @@ fn values() {
     find().every_pair(&mut answers, |d| {
         answered(&reads::find_value(&d.message(), d.start, &d.asked))
     });
-    answers.assert_complete();
+    answers.assert_complete(["find"]);
     copy().every_pair(&mut answers, |d| {
         let out = vec![0xEE; d.room];
         answered(&reads::copy_value(&d.message(), d.start, &d.asked, &out).0)
     });
+    answers.assert_answered(["find", "copy"]);
 }
 
 #[test]
@@ -131,5 +136,5 @@ fn authentication_records() {
             answered(&reads::read_header_auth_tag(&d.message(), d.start, d.suite))
         });
     }
-    answers.assert_complete();
+    answers.assert_complete(["read auth"]);
 }

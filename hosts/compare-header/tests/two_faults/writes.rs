@@ -75,6 +75,7 @@ fn context() -> Listed<WriteDraft> {
     list.push(output());
     Listed {
         operation: "write section",
+        version: None,
         sound: WriteDraft::context(),
         list,
     }
@@ -86,6 +87,7 @@ fn key_section() -> Listed<WriteDraft> {
     list.push(output());
     Listed {
         operation: "write keys",
+        version: None,
         sound: WriteDraft::keys(),
         list,
     }
@@ -119,6 +121,7 @@ fn body(version: u32) -> Listed<WriteDraft> {
     ]);
     Listed {
         operation: "write body",
+        version: Some(version),
         sound: WriteDraft::body(version),
         list,
     }
@@ -128,6 +131,7 @@ fn body(version: u32) -> Listed<WriteDraft> {
 fn auth(version: u32) -> Listed<RecordDraft> {
     Listed {
         operation: "write auth",
+        version: Some(version),
         sound: RecordDraft::new(version),
         list: vec![
             record("6 suite", |d| d.suite ^= 1),
@@ -155,7 +159,7 @@ fn sections() {
         let out = vec![0xEE; d.room];
         answered(&writes::write_encrypted_data_keys_section(&d.text, &d.keys, &out).0)
     });
-    answers.assert_complete();
+    answers.assert_complete(["write section", "write keys"]);
 }
 
 #[test]
@@ -174,7 +178,7 @@ fn written_bodies() {
             answered(&writes::write_header_body(lent, &vec![0xEE; d.room]).0)
         });
     }
-    answers.assert_complete();
+    answers.assert_complete(["write body"]);
 }
 
 #[test]
@@ -186,7 +190,7 @@ fn written_records() {
             answered(&writes::write_header_auth_tag(d.suite, &d.iv, &d.tag, &out).0)
         });
     }
-    answers.assert_complete();
+    answers.assert_complete(["write auth"]);
 }
 
 /// List a header: 28 is all that can be refused, whatever the message.
@@ -205,5 +209,5 @@ fn listings() {
             answers.count("write listing", wanted.0);
         }
     }
-    answers.assert_complete();
+    answers.assert_complete(["write listing"]);
 }
