@@ -1,6 +1,6 @@
 /*
  * The refusals by their numbers, and in words. bafirolen.h includes this. A number keeps its meaning from one version to the next;
- * later versions have more of them.
+ * later versions may have more of them. Bytes are given in hexadecimal.
  */
 #ifndef BAFIROLEN_REFUSALS_H
 #define BAFIROLEN_REFUSALS_H
