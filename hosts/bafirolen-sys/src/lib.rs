@@ -87,7 +87,7 @@ pub struct BafirolenBody {
     pub numbers: BafirolenNumbers,
     /// The place of the message ID's first byte.
     pub message_id_start: u64,
-    /// How many bytes the message ID has; the context section begins behind
+    /// How many bytes the message ID has; the context section begins after
     /// them.
     pub message_id_len: u64,
     /// How many pairs the context has.

@@ -3,7 +3,7 @@
 //!
 //!     cargo run --release --example find_value -- FILE KEY
 
-use bafirolen::{find_value, read_header_body, Request, LARGEST_KEY_TABLE, LARGEST_PAIR_TABLE};
+use bafirolen::{find_bytes, read_header_body, Request, LARGEST_KEY_TABLE, LARGEST_PAIR_TABLE};
 use std::error::Error;
 use std::ffi::{OsStr, OsString};
 use std::io::{self, Write};
@@ -16,8 +16,7 @@ fn run(path: &Path, key: &OsStr) -> Result<(), Box<dyn Error>> {
     let message = fs::read(path).map_err(|error| format!("{}: {error}", path.display()))?;
     let (mut pairs, mut keys) = (vec![0; LARGEST_PAIR_TABLE], vec![0; LARGEST_KEY_TABLE]);
     let body = read_header_body(&message, 0, Request::default(), &mut pairs, &mut keys)?;
-    let value = find_value(&message, body.context_start(), key.as_bytes())?;
-    let value = value.within(&message).ok_or("the value lies elsewhere")?;
+    let value = find_bytes(&message, body.context_start(), key.as_bytes())?;
 
     let mut out = io::stdout().lock();
     out.write_all(value)?;

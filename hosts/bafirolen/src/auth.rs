@@ -12,12 +12,13 @@ pub struct AuthRecord {
     pub iv: [u8; IV_LENGTH],
     /// The tag.
     pub tag: [u8; TAG_LENGTH],
-    /// The place of the next byte behind the record.
+    /// The place right after the record.
     pub tail: u64,
 }
 
-/// Reads the authentication record of a suite at `start`, which is the body's
-/// tail where the record stands behind it.
+/// Reads the authentication record of a suite at `start`: the IV and the tag
+/// that stand right after a header body (its `tail` and `numbers.suite`).
+/// Neither is verified.
 ///
 /// # Errors
 ///

@@ -4,8 +4,8 @@ use crate::request::max_asked;
 use crate::{Keys, Numbers, Pairs, Place, Refusal, Request, NUMBERS_PER_KEY, NUMBERS_PER_PAIR};
 use core::fmt;
 
-/// An accepted body: its numbers and tail, and its parts as they lie in the
-/// message that it was read from.
+/// An accepted header body: its numbers and tail, and its parts as they lie in
+/// the message that it was read from.
 #[derive(Clone, Copy)]
 #[non_exhaustive]
 #[must_use]
@@ -13,8 +13,7 @@ pub struct Body<'m, 't> {
     /// Its fields that are numbers. Type and IV length are 0 in version 2,
     /// which lacks them.
     pub numbers: Numbers,
-    /// The place of the next byte behind the body, where its authentication
-    /// record begins.
+    /// The place right after the body, where its authentication record begins.
     pub tail: u64,
     message: &'m [u8],
     message_id: Place,
@@ -55,9 +54,9 @@ impl<'m, 't> Body<'m, 't> {
         self.suite_data
     }
 
-    /// Where the context section begins, which is right behind the message
-    /// ID: the start to give to [`find_value`](crate::find_value),
-    /// [`find_part`](crate::find_part) and [`copy_value`](crate::copy_value).
+    /// Where the context section begins, which is right after the message ID:
+    /// the start to give to [`find_value`](crate::find_value),
+    /// [`find_bytes`](crate::find_bytes) and [`copy_value`](crate::copy_value).
     #[inline]
     #[must_use]
     pub fn context_start(&self) -> u64 {

@@ -14,14 +14,16 @@ pub struct Numbers {
     pub version: u32,
     /// [`MESSAGE_TYPE`] in version 1, 0 in version 2.
     pub message_type: u32,
-    /// The algorithm suite.
+    /// The algorithm suite. Version 1: 0x0014, 0x0046, 0x0078, 0x0114, 0x0146,
+    /// 0x0178, 0x0214, 0x0346, 0x0378; version 2: 0x0478, 0x0578.
     pub suite: u32,
     /// [`CONTENT_TYPE_NON_FRAMED`](crate::CONTENT_TYPE_NON_FRAMED) or
     /// [`CONTENT_TYPE_FRAMED`](crate::CONTENT_TYPE_FRAMED).
     pub content_type: u32,
     /// [`IV_LENGTH`] in version 1, 0 in version 2.
     pub header_iv_length: u32,
-    /// Above 0 if the content is framed, else 0.
+    /// Above 0 if the content is framed, else 0; a reader of one version does
+    /// not test this.
     pub frame_length: u32,
 }
 
@@ -80,6 +82,15 @@ impl Numbers {
 
 /// What a body is written from. By default all of it is empty or 0, which the
 /// writer refuses.
+///
+/// All numbers of a table are taken: after reading, lend
+/// [`pair_table`](crate::Body::pair_table) and
+/// [`key_table`](crate::Body::key_table), and not the tables that the reader was
+/// lent. Zeros at the end of these are places of length 0 and would be written
+/// as empty pairs or keys.
+///
+/// A body takes 34 bytes in version 1 and 76 in version 2; where it has a pair,
+/// 2 more; 4 for each pair, 6 for each key, and their parts.
 ///
 /// ```
 /// use bafirolen::{Draft, Numbers, CONTENT_TYPE_NON_FRAMED};

@@ -4,9 +4,9 @@ use crate::writes::length;
 use crate::{Place, Refusal};
 
 /// Where the value of a key stands, in the context section at `start`, read
-/// tolerantly. Any bytes may be asked for.
+/// tolerantly. The key may be any bytes: one that is not UTF-8 is not found.
 ///
-/// The section is read, and nothing before or behind it: whoever wants the
+/// The section is read, and nothing before or after it: whoever wants the
 /// value from an accepted header reads that first, and then finds at its
 /// [`context_start`](crate::Body::context_start).
 ///
@@ -39,23 +39,32 @@ pub fn find_value(message: &[u8], start: u64, key: &[u8]) -> Result<Place, Refus
     Ok(Place::new(record.start, record.len))
 }
 
-/// The value that [`find_value`] finds as a part of the message; on any
+/// The value that [`find_value`] finds, as a part of the message.
+///
+/// # Errors
+///
+/// Those of [`find_value`].
+#[inline]
+pub fn find_bytes<'m>(message: &'m [u8], start: u64, key: &[u8]) -> Result<&'m [u8], Refusal> {
+    find_value(message, start, key).map(|place| place.read(message))
+}
+
+/// The value that [`find_value`] finds, as a part of the message; on any
 /// refusal the empty part at the message's front, which a found value that is
-/// empty resembles: [`find_value`] tells the two apart.
+/// empty resembles: [`find_bytes`] tells the two apart.
 ///
 /// The proved operation of this name gives a part of the message, and a
 /// function that crosses to C gives no reference; so the part is cut here, at
-/// the place that the proved find gives. The comparison with the separate
-/// implementation holds the part to its bytes and its address.
-/// [`copy_value`] is the one that runs the proved operation itself.
+/// the place that the proved find gives. [`copy_value`] is the one that runs
+/// the proved operation itself.
 #[inline]
 #[must_use]
 pub fn find_part<'m>(message: &'m [u8], start: u64, key: &[u8]) -> &'m [u8] {
-    find_value(message, start, key).map_or(&message[..0], |place| place.read(message))
+    find_bytes(message, start, key).unwrap_or(&message[..0])
 }
 
 /// Copies the value that [`find_value`] finds to the front of `out`; answers
-/// its length. The bytes behind it keep, and on a refusal all.
+/// its length. The bytes after it are left as they were, and on a refusal all.
 ///
 /// # Errors
 ///

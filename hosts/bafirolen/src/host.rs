@@ -5,8 +5,9 @@ use crate::writes::length;
 use crate::Refusal;
 
 /// 0 where the listing program accepts the header at `start`, else the
-/// refusal's number. It reads either version, tolerantly, any count of keys,
-/// with tables of 4,096 numbers, which lie on the stack.
+/// refusal's number. It reads either version, tolerantly, with tables of 4,096
+/// numbers, so at most 1,024 pairs and 682 keys; where these are too short (22,
+/// 23), [`read_header_body`](crate::read_header_body) is lent longer ones.
 #[inline]
 #[must_use]
 pub fn header_number(message: &[u8], start: u64) -> u32 {
@@ -15,7 +16,8 @@ pub fn header_number(message: &[u8], start: u64) -> u32 {
 }
 
 /// The tail where the listing program accepts the header at `start`, else the
-/// refusal's position. It reads as [`header_number`] does.
+/// refusal's position, which is 0 but for a shortage. It reads as
+/// [`header_number`] does.
 #[inline]
 #[must_use]
 pub fn header_position(message: &[u8], start: u64) -> u64 {
@@ -23,10 +25,17 @@ pub fn header_position(message: &[u8], start: u64) -> u64 {
     unsafe { bafirolen_sys::bafirolen_header_position(message.as_ptr(), message.len(), start) }
 }
 
-/// Writes the listing of the header at the front of the message, or of its
-/// refusal, to the front of `out`; answers the text's length. A message that
-/// is refused has a listing too, the line that says so. An output of 28 bytes
-/// more than two for each of the message is never too short.
+/// Writes the listing of the header at the front of the message to the front
+/// of `out`; answers the text's length. The message is read as by
+/// [`header_number`]; one that is refused has a listing too, the one line
+/// `refused`, number and position. An output of 28 bytes more than two for each
+/// of the message is never too short.
+///
+/// Tabs stand between the parts of a line, and each line ends with a line feed:
+/// `header`, version, type, suite, content type, frame length and tail; `id` and
+/// the message ID; for each pair `pair`, key and value; for each key `key`,
+/// provider ID, provider info and ciphertext; in version 2 `data` and the suite
+/// data. Version, frame length and tail are decimal, all else hexadecimal.
 ///
 /// # Errors
 ///

@@ -1,5 +1,11 @@
 //! A codec of AWS Encryption SDK message headers: a safe wrapper of proved
-//! operations, which lie in the archive that `bafirolen-sys` links.
+//! operations, which lie in the archive that `bafirolen-sys` links. Nothing is
+//! verified, signed or decrypted: that a header is accepted says how it is
+//! built, and not whose it is.
+//!
+//! A header has an encryption context, pairs of key and value, and encrypted
+//! data keys. Both keep their order: nothing is sorted, and no order is
+//! tested. Either may be empty.
 //!
 //! # Lending
 //!
@@ -19,7 +25,7 @@
 //! # Reading
 //!
 //! ```
-//! use bafirolen::{find_part, read_header_body, Request};
+//! use bafirolen::{find_bytes, read_header_body, Request};
 //!
 //! # fn main() -> Result<(), bafirolen::Refusal> {
 //! let message = b"\x01\x80\x01\x78\x00\x01\x02\x03\x04\x05\x06\x07\x08\x09\x0A\x0B\x0C\x0D\x0E\x0F\
@@ -39,7 +45,7 @@
 //!     assert_eq!((key.provider_id, key.provider_info), (&b"p1"[..], &b"a"[..]));
 //!     assert_eq!(key.ciphertext, [0xAA, 0xBB, 0xCC]);
 //! }
-//! assert_eq!(find_part(message, body.context_start(), b"lang"), b"cy");
+//! assert_eq!(find_bytes(message, body.context_start(), b"lang")?, b"cy");
 //! # Ok(())
 //! # }
 //! ```
@@ -69,11 +75,48 @@
 //! Whatever is handed in, a function accepts it or answers one [`Refusal`].
 //! Its [`remedy`](Refusal::remedy) says what a caller does:
 //!
-//! - [`Remedy::Wait`] (2): the message breaks off. Fetch until it has that
-//!   many bytes, and ask again; if no more will come, reject it.
+//! - [`Remedy::Wait`] (2): the message breaks off. Fetch until it has at least
+//!   that many bytes, and ask again; if no more will come, reject it.
 //! - [`Remedy::LendMore`] (22, 23, 28): a table or the output is too short.
 //!   Lend a longer one, and ask again.
 //! - [`Remedy::Reject`] (all others): no bytes and no room change the answer.
+//!
+//! What is accepted borrows the message, so a message that grows is asked
+//! about first, and read once it is whole:
+//!
+//! ```
+//! use bafirolen::{read_header_body, Refusal, Remedy, Request};
+//!
+//! /// Appends what has come since, and says whether anything has.
+//! fn fetch(message: &mut Vec<u8>) -> bool {
+//! #   message.extend([0; 4]);
+//! #   message.len() < 64
+//! }
+//!
+//! /// Fetches until the header is there or is refused, and no more than
+//! /// `limit` bytes.
+//! fn fetched(message: &mut Vec<u8>, limit: u64) -> Result<(), Refusal> {
+//!     let (mut pairs, mut keys) = ([0; 40], [0; 60]);
+//!     loop {
+//!         let read = read_header_body(message, 0, Request::default(), &mut pairs, &mut keys);
+//!         let Err(refusal) = read.map(|_| ()) else {
+//!             return Ok(());
+//!         };
+//!         match refusal.remedy() {
+//!             Remedy::Wait { position } if position <= limit => {
+//!                 if !fetch(message) {
+//!                     return Err(refusal);
+//!                 }
+//!             }
+//!             _ => return Err(refusal),
+//!         }
+//!     }
+//! }
+//! # let mut message = vec![1, 0x80, 1, 0x78];
+//! # assert_eq!(fetched(&mut message, 1 << 20), Err(Refusal::ContentType));
+//! # let mut message = vec![1, 0x80, 1, 0x78];
+//! # assert_eq!(fetched(&mut message, 10), Err(Refusal::Shortage { position: 20 }));
+//! ```
 //!
 //! The functions say under 'Errors' which refusals they answer, in the order
 //! of their tests: of several that apply, the first is answered.
@@ -81,8 +124,8 @@
 //! # Safety, stack and platform
 //!
 //! Every function is safe for any arguments. A slice gives a pointer that is
-//! good for its length; that of an empty one leads nowhere, but its length,
-//! 0, goes with it, and the operations touch nothing at or beyond a length.
+//! good for its length; an empty slice's pointer is never followed, since the
+//! operations touch nothing at or beyond a length.
 //! `&mut` keeps what is filled apart from all else, and the operations have
 //! no condition on the numbers. That the places in an accepted answer lie in
 //! the message is proved of the operations; with a stale archive, cutting a
@@ -119,7 +162,7 @@ pub use bafirolen_sys::VERSION;
 pub use body::{read_header_body, Body};
 pub use constants::*;
 pub use draft::{Draft, Numbers};
-pub use finding::{copy_value, find_part, find_value};
+pub use finding::{copy_value, find_bytes, find_part, find_value};
 pub use host::{header_number, header_position, version, write_listing};
 pub use parts::{Key, Keys, Pair, Pairs};
 pub use place::Place;

@@ -19,7 +19,7 @@ macro_rules! refusals {
         /// ```
         /// use bafirolen::{find_value, Refusal};
         ///
-        /// // A context section that breaks off behind its first byte.
+        /// // A context section that breaks off after its first byte.
         /// let refusal = find_value(&[0], 0, b"lang").unwrap_err();
         /// assert_eq!(refusal, Refusal::Shortage { position: 2 });
         /// assert_eq!(refusal.to_string(), "refusal 2: the message does not reach position 2");
@@ -68,7 +68,8 @@ macro_rules! refusals {
 
             /// The refusal of a number and a position, of which both are kept:
             /// [`number`](Refusal::number) and [`position`](Refusal::position)
-            /// give them back, whatever they are.
+            /// give them back, whatever they are. 0 is no refusal, and gives
+            /// `Unlisted`.
             #[must_use]
             pub const fn from_number(number: u32, position: u64) -> Refusal {
                 match (number, position) {

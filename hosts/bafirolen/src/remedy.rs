@@ -19,21 +19,25 @@
 #[non_exhaustive]
 #[must_use]
 pub enum Remedy {
-    /// 2: fetch until the message has `position` bytes, then ask again. As
-    /// long as it has fewer, the answer is the same. If the message is whole
-    /// already, it is rejected.
+    /// 2: fetch until the message has at least `position` bytes, then ask
+    /// again. As long as it has fewer, the answer is the same. If the message
+    /// is whole already, it is rejected.
     ///
-    /// With that many bytes the answer may be another refusal, a further
-    /// shortage among them. A part of a context section may be said to end
-    /// behind its section: no bytes mend such a shortage, and once they are
-    /// there the section is refused by 14, or by what else applies first. And
-    /// a message above 4,294,967,295 bytes is refused by 1.
+    /// `position` is the end of the next part only, and each call reads from
+    /// the start again: fetch what is at hand, or twice as much, rather than
+    /// just up to it. With that many bytes the answer may be another refusal,
+    /// a further shortage among them. Set a limit: lengths in a message may
+    /// claim what never comes; a part of a context may be said to end after
+    /// its section, which is refused by 14, or by an earlier test, once the
+    /// bytes are there; and a message above 4,294,967,295 bytes is refused
+    /// by 1.
     Wait {
         /// How many bytes the message would have to have.
         position: u64,
     },
     /// 22, 23, 28: the input is good, and the lent pair table, key table or
-    /// output is too short for the answer. Lend a longer one and ask again.
+    /// output is too short for the answer: the variant says which. Lend a
+    /// longer one and ask again; how much longer is not said.
     /// Tables of [`LARGEST_PAIR_TABLE`](crate::LARGEST_PAIR_TABLE) and
     /// [`LARGEST_KEY_TABLE`](crate::LARGEST_KEY_TABLE) numbers always suffice.
     LendMore,

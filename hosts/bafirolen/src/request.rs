@@ -18,9 +18,12 @@ pub enum Which {
     /// Versions 1 and 2. This reader alone tests the frame length (20).
     #[default]
     Either,
-    /// Version 1; version 2 is refused by 4.
+    /// Version 1; version 2 is refused by 4. The frame length is not tested
+    /// against the content type: for that one too, ask for either version and
+    /// look at the number.
     V1Only,
-    /// Version 2; version 1 is refused by 4.
+    /// Version 2; version 1 is refused by 4. As for version 1, the frame length
+    /// is not tested.
     V2Only,
 }
 

@@ -9,7 +9,7 @@ use core::fmt;
 #[non_exhaustive]
 #[must_use]
 pub struct Context<'m, 't> {
-    /// The place of the next byte behind the section.
+    /// The place right after the section.
     pub tail: u64,
     message: &'m [u8],
     table: &'t [u32],
@@ -21,7 +21,7 @@ pub struct Context<'m, 't> {
 #[non_exhaustive]
 #[must_use]
 pub struct KeySection<'m, 't> {
-    /// The place of the next byte behind the section.
+    /// The place right after the section.
     pub tail: u64,
     message: &'m [u8],
     table: &'t [u32],

@@ -174,6 +174,13 @@ pub fn find_value(message: &[u8], start: u64, key: &[u8]) -> Answer<Place> {
         .map(place)
         .map_err(refused);
     same(&answer, &wanted, Asked(key), message, start);
+    let bytes = bafirolen::find_bytes(message, start, key);
+    let given = bytes.as_ref().map(|part| part.as_ptr_range());
+    let placed = answer.as_ref().map(|place| {
+        let part = place.within(message).expect("a value in its message");
+        part.as_ptr_range()
+    });
+    assert!(given == placed, "{:?}: a value by its bytes", Asked(key));
     let ours = bafirolen::find_part(message, start, key);
     let theirs = reference::find_part(message, start, key);
     assert!(

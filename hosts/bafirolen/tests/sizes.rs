@@ -1,0 +1,72 @@
+//! What is written takes as many bytes as the docs say: it fits an output of
+//! just so many, and none that is one shorter.
+
+use bafirolen::{
+    write_aad_section, write_encrypted_data_keys_section, write_header_body, Draft, Numbers,
+    Refusal, CONTENT_TYPE_FRAMED,
+};
+
+/// Places of the lengths given, one after the other.
+fn table(lengths: &[u32]) -> Vec<u32> {
+    let mut at = 0;
+    let places = lengths.iter().map(|&length| {
+        at += length;
+        [at - length, length]
+    });
+    places.flatten().collect()
+}
+
+fn takes(length: usize, write: impl Fn(&mut [u8]) -> Result<usize, Refusal>) {
+    assert_eq!(write(&mut vec![0; length]), Ok(length));
+    let refused = write(&mut vec![0; length - 1]);
+    assert_eq!(refused, Err(Refusal::OutputTooShort));
+}
+
+fn body(version: usize, pairs: &[u32], keys: &[u32], text: &[u8]) -> usize {
+    let (id, data) = ([7; 32], [8; 32]);
+    let draft = if version == 1 {
+        Draft::new(
+            Numbers::version_1(0x0178, CONTENT_TYPE_FRAMED, 9),
+            &id[..16],
+        )
+    } else {
+        let numbers = Numbers::version_2(0x0578, CONTENT_TYPE_FRAMED, 9);
+        Draft::new(numbers, &id).with_suite_data(&data)
+    };
+    let (pair_table, key_table) = (table(pairs), table(keys));
+    let draft = draft.with_tables(text, &pair_table, &key_table);
+    let parts: u32 = pairs.iter().chain(keys).sum();
+    let length = [34, 76][version - 1]
+        + if pairs.is_empty() { 0 } else { 2 }
+        + 4 * (pairs.len() / 2)
+        + 6 * (keys.len() / 3)
+        + parts as usize;
+    takes(length, |out| write_header_body(&draft, out));
+    length
+}
+
+#[test]
+fn as_the_docs_say() {
+    let text: Vec<u8> = (b'a'..=b'z').cycle().take(600).collect();
+    let pairs: [&[u32]; 4] = [&[], &[0, 0], &[1, 3, 2, 0], &[5, 9, 4, 7, 250, 80]];
+    let keys: [&[u32]; 3] = [&[], &[0, 0, 0], &[2, 1, 3, 9, 0, 300]];
+    let mut longest = 0;
+    for pairs in pairs {
+        let places = table(pairs);
+        let parts: u32 = pairs.iter().sum();
+        let length = if pairs.is_empty() { 2 } else { 4 } + 2 * pairs.len() + parts as usize;
+        takes(length, |out| write_aad_section(&text, &places, out));
+        for keys in keys {
+            let longer = [1, 2].map(|version| body(version, pairs, keys, &text));
+            longest = longest.max(longer[1]);
+        }
+    }
+    for keys in keys {
+        let places = table(keys);
+        let parts: u32 = keys.iter().sum();
+        let length = 2 + 2 * keys.len() + parts as usize;
+        let write = |out: &mut [u8]| write_encrypted_data_keys_section(&text, &places, out);
+        takes(length, write);
+    }
+    assert_eq!(longest, 76 + 2 + 12 + 12 + 355 + 315);
+}
