@@ -1,46 +1,52 @@
 /*
  * Message headers of the AWS Encryption SDK: reads, writes and lists header bodies, and reads and writes their two sections and
- * authentication records. For hosts in C99 and C++11 and later. Nothing is verified, signed or decrypted: that a header is accepted
- * says how it is built, and not whose it is.
+ * authentication records. For hosts in C99 and C++11 and later. Nothing is verified, signed or decrypted: that a header is
+ * accepted says how it is built, and not whose it is.
  *
- * Link libbafirolen_c.a, which `rt staticlib bafirolen_c` writes into target/staticlib of the repository: code for x86-64 and the
- * System V calling convention (Linux). It calls memcpy and memset, and nothing else.
+ * Link libbafirolen_c.a: code for x86-64 and the System V calling convention (Linux). It calls memcpy and memset, and nothing
+ * else. In the repository `rt staticlib bafirolen_c` writes it into target/staticlib, and hosts/c has examples.
  *
  * THE SHORTEST USE. bafirolen_header_number says of the bytes at a start whether a header is there (0) or why not, and
  * bafirolen_header_position where it ends, or how many bytes are wanted. A host that wants the fields calls
- * bafirolen_read_header_body. The repository has examples in hosts/c.
+ * bafirolen_read_header_body.
  *
  * LENDING. A pointer and a length together are one lent part: `const uint8_t *message, size_t message_len`. The length counts
- * elements: bytes of a message, numbers of a table (`sizeof table` counts bytes: lend sizeof table / sizeof *table). A part of length
- * 0 takes any pointer, NULL included. Any other pointer is good for its length and has its type's alignment. What a function may
- * change (`out`, `table`, and `pairs` and `keys` without `const`) shares no byte with anything else that the same call is lent; what
- * it only reads may overlap. Nothing is kept after a call, nothing is allocated, and calls share no state: several threads may call
- * at once.
+ * elements: bytes of a message, numbers of a table (`sizeof table` counts bytes: lend sizeof table / sizeof *table). A part of
+ * length 0 takes any pointer, NULL included. Any other pointer leads to at least that many elements and has its type's
+ * alignment. What a function may change (`out`, `table`, and `pairs` and `keys` without `const`) shares no byte with anything
+ * else that the same call is lent; what it only reads may overlap. Nothing is kept after a call, nothing is allocated, and calls
+ * share no state: several threads may call at once.
  *
- * PLACES are offsets in bytes from the first byte of the message or text, which is 0. `tail` is the place right after what was read.
+ * PLACES are offsets in bytes from the first byte of the message, whatever the start, or of the text that a writer is lent.
+ * `tail` is the place right after what was read.
  *
- * ANSWERS. Every answer is a struct by value, but for the two calls named above, whose answer is one number. Its `number` is 0 where
- * the input was accepted; otherwise it is the refusal, one of `enum BafirolenRefusal`, and every other field is 0 but for `position`,
- * which with BAFIROLEN_SHORTAGE is how many bytes the message would have to have. On a refusal every lent byte and number is as it
- * was. No input is outside what a function takes: each call on parts lent as above returns, with exactly one answer.
+ * ANSWERS. bafirolen_version, bafirolen_header_number and bafirolen_header_position answer one number; every other function
+ * answers a struct by value. The struct's `number` is 0 where the input was accepted, and then its `position` is 0. Otherwise it
+ * is the refusal, one of `enum BafirolenRefusal`, and every other field is 0, except that with BAFIROLEN_REFUSED_SHORTAGE
+ * `position` is how many bytes the message would have to have. On a refusal every lent byte and number is as it was. Every
+ * input is allowed: each call on parts lent as above returns, with exactly one answer.
  *
- * The comment of each function lists the refusals that it can answer ("Refuses"), in the order of its tests: of two that apply the
- * first is answered. 10, 11, 12 and, in reading, 13 are tested of one pair after the other, and 16 of one key after the other, so
- * that the first pair or key with a fault decides. 2 is answered wherever the next part is not all there.
+ * The comment of each function lists the refusals that it can answer ("Refuses"), in the order of its tests: of two that apply
+ * the first is answered. 10, 11, 12 and, in reading, 13 are tested of one pair after the other, and 16 of one key after the
+ * other, so that the first pair or key with a fault decides. 2 is answered where the next field is not all there. Fields are read
+ * one by one, but the context section is awaited whole, once its length is read, before any of its pairs is tested.
  *
  * WHAT TO DO WITH A REFUSAL.
- * BAFIROLEN_SHORTAGE: fetch more, until the message has at least `position` bytes, and call again; with fewer the answer is the same.
- * `position` is the end of the next part only, and each call reads from `start` again: fetch what is at hand, or twice as much,
- * rather than just up to it. Set a limit: the lengths in a message may claim what never comes, and a part of a context may be said to
- * end after its section, whose bytes, once they are there, are refused all the same.
- * BAFIROLEN_PAIR_TABLE_TOO_SHORT, BAFIROLEN_KEY_TABLE_TOO_SHORT, BAFIROLEN_OUTPUT_TOO_SHORT: lend more, and call again. The answer
- * does not say how much: lend twice as much, or what is largest (see TABLES). The two calls have tables of their own; where these
- * are too short, call bafirolen_read_header_body.
- * Every other: reject. Neither more bytes nor more room change it.
+ * BAFIROLEN_REFUSED_SHORTAGE: fetch more, until the message has at least `position` bytes, and call again; with fewer the answer
+ * is the same. `position` is the end of the next field only, and each call reads from `start` again: fetch what is at hand, or
+ * twice as much, rather than just up to it. If no more will come, or `position` is above 4,294,967,295, reject the message. Set a
+ * limit: lengths in a message may claim what never comes, and a key or value of a context may claim to end after the context
+ * section, which is then refused (by 14, or an earlier test) once those bytes have come.
+ * BAFIROLEN_REFUSED_PAIR_TABLE_TOO_SHORT, .._KEY_TABLE_TOO_SHORT, .._OUTPUT_TOO_SHORT: lend more, and call again. The answer does
+ * not say how much: lend twice as much, or a table of BAFIROLEN_LARGEST_PAIR_TABLE or BAFIROLEN_LARGEST_KEY_TABLE numbers; the
+ * writers' comments say how long an output has to be. The two calls and the listing have tables of their own; where these are too
+ * short, call bafirolen_read_header_body.
+ * Every other: neither more bytes nor more room change it. From a reader: reject the message (4, 15 and 21 depend on what you
+ * asked for). From a writer: correct the fields. BAFIROLEN_REFUSED_NOT_FOUND: the context is good and lacks this key.
  *
- * Names are those of the AWS Encryption SDK's message format: a header has an encryption context (pairs of key and value) and encrypted
- * data keys (key provider ID, key provider info, ciphertext); "key" alone is either, by where it stands. Pairs and keys keep their
- * order: nothing is sorted, and no order is tested. A header may have no pair, and may have no key.
+ * Names are those of the AWS Encryption SDK's message format: a header has an encryption context (pairs of key and value) and
+ * encrypted data keys (key provider ID, key provider info, ciphertext); "key" alone is either, by where it stands. Pairs and keys
+ * keep their order: nothing is sorted, and no order is tested. A header may have no pair, and may have no key.
  */
 #ifndef BAFIROLEN_H
 #define BAFIROLEN_H
@@ -56,15 +62,15 @@ extern "C" {
 #endif
 
 /*
- * The version of these declarations, which grows by one with each change of them. bafirolen_version gives that of the archive: where
- * the two differ, the archive was made for another header file than this.
+ * The version of these declarations, which grows by one with each change of them. bafirolen_version gives that of the archive:
+ * where the two differ, the archive was made for another header file than this.
  */
 #define BAFIROLEN_VERSION 1
 uint32_t bafirolen_version(void);
 
 /*
- * STACK. How many bytes of stack a call may take, measured on the archive and rounded up; a test runs every function on a thread that
- * has just so many left. Nothing proves them. bafirolen_version takes less than BAFIROLEN_STACK_KEYS.
+ * STACK. How many bytes of stack a call may take, measured on the archive and rounded up; a test runs every function on a thread
+ * that has just so many left. Nothing proves them. bafirolen_version takes less than BAFIROLEN_STACK_KEYS.
  */
 #define BAFIROLEN_STACK_READ 40960   /* read a context section or a body; find and copy a value */
 #define BAFIROLEN_STACK_KEYS 1024    /* read and write a key section or an authentication record */
@@ -73,7 +79,7 @@ uint32_t bafirolen_version(void);
 
 /*
  * THE TWO CALLS. The header body at `start` in one number: 0 where it is accepted, else the refusal; and its position: the tail
- * where it is accepted, else 0 but for BAFIROLEN_SHORTAGE. Read as the listing program reads: either version, tolerant, no maximum,
+ * where it is accepted, else 0 but for BAFIROLEN_REFUSED_SHORTAGE. It is read in either version, tolerantly, with no maximum and
  * with tables of 4,096 numbers, so at most 1,024 pairs and 682 keys.
  * Refuses: 1 2 3 5 6 7 8 9 10 11 12 13 14 16 17 18 19 20 22 23.
  */
@@ -81,21 +87,22 @@ uint32_t bafirolen_header_number(const uint8_t *message, size_t message_len, uin
 uint64_t bafirolen_header_position(const uint8_t *message, size_t message_len, uint64_t start);
 
 /*
- * READING. A reader changes its tables, and nothing else, and those only where it accepts. A table need not be a multiple of four or
- * six.
+ * READING. A reader changes its tables, and nothing else, and those only where it accepts. A table need not be a multiple of four
+ * or six.
  */
 
 /*
  * Reads the header body at `start`.
- * which: BAFIROLEN_V1_ONLY; BAFIROLEN_V2_ONLY; any other number: BAFIROLEN_EITHER. Asking for one version leaves out the test of the
- * frame length (20): for that one too, ask for either and look at numbers.version.
- * mode: BAFIROLEN_TOLERANT; any other number: strict, which refuses an empty context in its old form.
+ * which: BAFIROLEN_V1_ONLY; BAFIROLEN_V2_ONLY; any other number: BAFIROLEN_EITHER. Asking for one version leaves out the test of
+ * the frame length (20): to have that test as well, ask for either version and then compare numbers.version.
+ * mode: BAFIROLEN_TOLERANT; any other number: strict, which refuses an empty context in its old form, 00 02 00 00 in place of
+ * 00 00.
  * has_max: BAFIROLEN_NO_MAX, and `max` is not looked at; any other number: at most `max` keys.
  * pairs, keys: accepted, they begin with four numbers for each pair and six for each key, in the order of the section. The numbers
  * after those are left as they were.
  * Refuses: 1 2 3 4 5 6 7 8 21 9 10 11 12 13 14 15 16 17 18 19 20 22 23.
- * 4 only where one version is asked for; 5, 18 and 19 not where that is version 2; 20 only where either version is; 21 only where
- * strict.
+ * 4 only where one version is asked for; 5, 18 and 19 only of a message of version 1; 20 only where either version is asked for;
+ * 21 only where strict.
  */
 BafirolenBody bafirolen_read_header_body(const uint8_t *message, size_t message_len, uint64_t start, uint32_t which, uint32_t mode,
                                          uint32_t has_max, uint64_t max, uint32_t *pairs, size_t pairs_len, uint32_t *keys,
@@ -117,18 +124,19 @@ BafirolenSection bafirolen_read_encrypted_data_keys_section(const uint8_t *messa
                                                             uint32_t has_max, uint64_t max, uint32_t *table, size_t table_len);
 
 /*
- * Finds the value of a key in the context section at `start` (of a body that was accepted: bafirolen_context_start), read tolerantly.
- * The key may be any bytes: one that is not UTF-8 is not found. Changes nothing.
+ * Finds the value of a key of the context in the context section at `start`, read tolerantly. For a body that was accepted
+ * bafirolen_context_start gives that start. The key may be any bytes: one that is not UTF-8 is not found. Changes nothing.
  * Refuses: 1 2 8 9 10 11 12 13 14 29.
  */
-BafirolenPlace bafirolen_find_value(const uint8_t *message, size_t message_len, uint64_t start, const uint8_t *key, size_t key_len);
+BafirolenPlace bafirolen_find_value(const uint8_t *message, size_t message_len, uint64_t start, const uint8_t *key,
+                                    size_t key_len);
 
 /*
  * Copies the value that bafirolen_find_value finds to `out`, from its first byte on; the bytes after it are left as they were.
  * Refuses: 1 2 8 9 10 11 12 13 14 29 28.
  */
-BafirolenWritten bafirolen_copy_value(const uint8_t *message, size_t message_len, uint64_t start, const uint8_t *key, size_t key_len,
-                                      uint8_t *out, size_t out_len);
+BafirolenWritten bafirolen_copy_value(const uint8_t *message, size_t message_len, uint64_t start, const uint8_t *key,
+                                      size_t key_len, uint8_t *out, size_t out_len);
 
 /*
  * Reads the authentication record of a suite at `start`: the IV and the tag that stand right after a header body (its tail and
@@ -140,8 +148,9 @@ BafirolenAuth bafirolen_read_header_auth_tag(const uint8_t *message, size_t mess
 /*
  * WRITING. A writer changes `out`, and nothing else, and that only where it accepts: the bytes from the first on, `length` of
  * them; the bytes after those are left as they were. A table holds places of `text`, in the order that readers fill: what a reader
- * filled can be handed to a writer, its message as the text. The numbers of a table are all taken: lend just four a pair, or six a
- * key. Zeros at the end of a longer table are places of length 0 and would be written as empty pairs or keys.
+ * filled can be handed to a writer, its message as the text. (An empty context is always written 00 00, in whichever form it was
+ * read; and 20 is tested.) The numbers of a table are all taken: lend just four a pair, or six a key. Zeros at the end of a longer
+ * table are places of length 0 and would be written as empty pairs or keys.
  */
 
 /*
@@ -159,16 +168,16 @@ BafirolenWritten bafirolen_write_encrypted_data_keys_section(const uint8_t *text
                                                              size_t keys_len, uint8_t *out, size_t out_len);
 
 /*
- * Writes the authentication record of a suite: IV and tag, 28 bytes, in version 1; the tag, 16 bytes, in version 2. iv_len is 12 in
- * both; version 2 ignores the IV's bytes.
+ * Writes the authentication record of a suite: IV and tag, 28 bytes, in version 1; the tag, 16 bytes, in version 2. iv_len is 12
+ * in both; version 2 ignores the IV's bytes.
  * Refuses: 6 19 30 28.
  */
-BafirolenWritten bafirolen_write_header_auth_tag(uint32_t suite, const uint8_t *iv, size_t iv_len, const uint8_t *tag, size_t tag_len,
-                                                 uint8_t *out, size_t out_len);
+BafirolenWritten bafirolen_write_header_auth_tag(uint32_t suite, const uint8_t *iv, size_t iv_len, const uint8_t *tag,
+                                                 size_t tag_len, uint8_t *out, size_t out_len);
 
 /*
- * Writes a header body. Pairs and keys have their places in one text; message ID and suite data are bytes of their own. A body takes 34
- * bytes in version 1 and 76 in version 2; where it has a pair, 2 more; 4 for each pair, 6 for each key, and their parts.
+ * Writes a header body. Pairs and keys have their places in one text; message ID and suite data are bytes of their own. A body
+ * takes 34 bytes in version 1 and 76 in version 2; where it has a pair, 2 more; 4 for each pair, 6 for each key, and their parts.
  * Refuses: 3 5 6 7 24 26 27 10 11 12 13 16 17 19 25 20 28.
  * 26 and 27 are tested of the pairs before 10, and of the keys before 16.
  */
@@ -179,11 +188,12 @@ BafirolenWritten bafirolen_write_header_body(BafirolenNumbers numbers, const uin
 
 /*
  * LISTING. Writes, as a writer does, the header at the first byte of the message as text; the listing program of the repository
- * prints the same. Tabs stand between the parts of a line, and each line ends with a line feed: `header`, version, type, suite,
- * content type, frame length and tail (type, suite and content type in hexadecimal); `id` and the message ID; for each pair `pair`,
- * key and value; for each key `key`, provider ID, provider info and ciphertext; in version 2 `data` and the suite data (bytes in
- * hexadecimal). The message is read as by the two calls; one that is refused has the one line `refused`, number and position, and is
- * no refusal here. An output of 2 * message_len + 28 bytes is never too short.
+ * prints the same. Each line ends with a line feed, and one tab stands between its parts: `header`, version, type, suite, content
+ * type, frame length and tail; `id` and the message ID; for each pair `pair`, key and value; for each key `key`, provider ID,
+ * provider info and ciphertext; in version 2 `data` and the suite data. Type and content type have two hexadecimal digits, the
+ * suite four, each byte two, lower-case and without 0x; the type of version 2 is 00, and an empty part leaves nothing between its
+ * tabs; all other numbers are decimal. The message is read as by the two calls; one that is refused has the one line `refused`,
+ * number and position, and is no refusal here. An output of 2 * message_len + 28 bytes is never too short.
  * Refuses: 28.
  */
 BafirolenWritten bafirolen_write_listing(const uint8_t *message, size_t message_len, uint8_t *out, size_t out_len);

@@ -9,10 +9,10 @@
 #define BAFIROLEN_NUMBERS_PER_PAIR 4 /* key start, key length, value start, value length */
 #define BAFIROLEN_NUMBERS_PER_KEY 6  /* start and length of provider ID, of provider info and of ciphertext */
 #define BAFIROLEN_LARGEST_PAIR_TABLE (BAFIROLEN_NUMBERS_PER_PAIR * 16383) /* pairs of 4 bytes or more in fewer than 65,534 */
-#define BAFIROLEN_LARGEST_KEY_TABLE (BAFIROLEN_NUMBERS_PER_KEY * 65535)   /* a count of 16 bits */
+#define BAFIROLEN_LARGEST_KEY_TABLE (BAFIROLEN_NUMBERS_PER_KEY * 65535)   /* a count of 16 bits; the table takes 1.5 MiB */
 
 /* Numbers and lengths of the format. */
-#define BAFIROLEN_V1_MESSAGE_TYPE 0x80 /* version 2 has no type, and its record says 0 */
+#define BAFIROLEN_V1_MESSAGE_TYPE 0x80 /* version 2 stores none: messageType is 0 */
 #define BAFIROLEN_NON_FRAMED 1      /* content types */
 #define BAFIROLEN_FRAMED 2
 #define BAFIROLEN_IV_LEN 12
@@ -22,9 +22,9 @@
 #define BAFIROLEN_V2_SUITE_DATA_LEN 32 /* version 1 has no suite data */
 
 /*
- * What readers are asked, as numbers. No number is refused: one that is not named here is read as BAFIROLEN_EITHER, BAFIROLEN_STRICT
- * or BAFIROLEN_AT_MOST, by where it stands. All three have the type uint32_t, so that a compiler does not notice two that are swapped:
- * BAFIROLEN_STRICT in the place of `which` asks for version 1.
+ * What readers are asked, as numbers. No number is refused: one that is not named here is read as BAFIROLEN_EITHER,
+ * BAFIROLEN_STRICT or BAFIROLEN_AT_MOST, by where it stands. All three have the type uint32_t, so that a compiler does not notice
+ * two that are swapped: BAFIROLEN_STRICT in the place of `which` asks for version 1.
  */
 enum BafirolenWhich { BAFIROLEN_EITHER = 0, BAFIROLEN_V1_ONLY = 1, BAFIROLEN_V2_ONLY = 2 };
 enum BafirolenMode { BAFIROLEN_TOLERANT = 0, BAFIROLEN_STRICT = 1 };
@@ -56,8 +56,8 @@ typedef struct BafirolenAuth {
 } BafirolenAuth;
 
 /*
- * The numbers among a header body's fields: what the body reader gives and the body writer takes. Each has 32 bits, also where it is
- * stored in 8 or 16, so that the writer tests the number that it is handed: 257 is no version. 24 bytes.
+ * The numbers among a header body's fields: what the body reader gives and the body writer takes. Each has 32 bits, also where it
+ * is stored in 8 or 16, so that the writer tests the number that it is handed: 257 is no version. 24 bytes.
  */
 typedef struct BafirolenNumbers {
     uint32_t version;     /* 1 or 2 */
@@ -69,6 +69,19 @@ typedef struct BafirolenNumbers {
     /* 0 where the content is non-framed, else above 0; a reader that is asked for one version does not test this */
     uint32_t frameLength;
 } BafirolenNumbers;
+
+/* The numbers of a header of version 1, and of version 2. */
+static inline BafirolenNumbers bafirolen_v1_numbers(uint32_t suite, uint32_t contentType, uint32_t frameLength)
+{
+    const BafirolenNumbers numbers = {1, BAFIROLEN_V1_MESSAGE_TYPE, suite, contentType, BAFIROLEN_IV_LEN, frameLength};
+    return numbers;
+}
+
+static inline BafirolenNumbers bafirolen_v2_numbers(uint32_t suite, uint32_t contentType, uint32_t frameLength)
+{
+    const BafirolenNumbers numbers = {2, 0, suite, contentType, 0, frameLength};
+    return numbers;
+}
 
 /* A header body that was read. 96 bytes. suiteDataStart and suiteDataLen are 0 in version 1, which has no suite data. */
 typedef struct BafirolenBody {
@@ -85,8 +98,8 @@ typedef struct BafirolenBody {
 } BafirolenBody;
 
 /*
- * Where the context section of a body that was accepted begins, the start that bafirolen_find_value wants: right after the message ID.
- * That is 20 bytes after the body's start in version 1, and 35 in version 2.
+ * Where the context section of a body that was accepted begins, the start that bafirolen_find_value wants: right after the
+ * message ID. That is 20 bytes after the body's start in version 1, and 35 in version 2. Of a refused body it is 0.
  */
 static inline uint64_t bafirolen_context_start(BafirolenBody body)
 {

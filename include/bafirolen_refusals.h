@@ -1,6 +1,6 @@
 /*
  * The refusals by their numbers, and in words. bafirolen.h includes this. A number keeps its meaning from one version to the next;
- * later versions may have more of them. Bytes are given in hexadecimal.
+ * later versions may have more of them. Stored bytes are given in hexadecimal (80, 01), counts in decimal.
  */
 #ifndef BAFIROLEN_REFUSALS_H
 #define BAFIROLEN_REFUSALS_H
@@ -10,36 +10,36 @@
 
 enum BafirolenRefusal {
     BAFIROLEN_ACCEPTED = 0, /* no refusal */
-    BAFIROLEN_NOT_ADDRESSABLE = 1,
-    BAFIROLEN_SHORTAGE = 2, /* the message would have to reach `position` */
-    BAFIROLEN_UNKNOWN_VERSION = 3,
-    BAFIROLEN_OTHER_VERSION = 4,
-    BAFIROLEN_MESSAGE_TYPE = 5,
-    BAFIROLEN_UNKNOWN_SUITE = 6,
-    BAFIROLEN_SUITE_OF_OTHER_VERSION = 7,
-    BAFIROLEN_COUNT_IN_EMPTY_CONTEXT = 8,
-    BAFIROLEN_NO_COUNT_IN_CONTEXT = 9,
-    BAFIROLEN_KEY_NOT_UTF8 = 10, /* a key of the context, as in 12 and 29 */
-    BAFIROLEN_VALUE_NOT_UTF8 = 11,
-    BAFIROLEN_KEY_SEEN_BEFORE = 12,
-    BAFIROLEN_PAIRS_TOO_LONG = 13,
-    BAFIROLEN_CONTEXT_LENGTH = 14,
-    BAFIROLEN_TOO_MANY_KEYS = 15, /* encrypted data keys, as in 16 and 23 */
-    BAFIROLEN_PROVIDER_ID_NOT_UTF8 = 16,
-    BAFIROLEN_CONTENT_TYPE = 17,
-    BAFIROLEN_RESERVED_BYTES = 18,
-    BAFIROLEN_IV_LENGTH = 19,
-    BAFIROLEN_FRAME_LENGTH = 20,      /* framed content with frame length 0, or non-framed content with another */
-    BAFIROLEN_OLD_EMPTY_CONTEXT = 21, /* strict: 00 02 00 00 */
-    BAFIROLEN_PAIR_TABLE_TOO_SHORT = 22,
-    BAFIROLEN_KEY_TABLE_TOO_SHORT = 23,
-    BAFIROLEN_ID_LENGTH = 24,         /* 16 bytes in version 1, 32 in version 2 */
-    BAFIROLEN_SUITE_DATA_LENGTH = 25, /* 0 bytes in version 1, 32 in version 2 */
-    BAFIROLEN_TABLE_OR_PLACE = 26,
-    BAFIROLEN_COUNT_OR_PART_TOO_LONG = 27,
-    BAFIROLEN_OUTPUT_TOO_SHORT = 28,
-    BAFIROLEN_NOT_FOUND = 29,
-    BAFIROLEN_TAG_LENGTH = 30
+    BAFIROLEN_REFUSED_NOT_ADDRESSABLE = 1,
+    BAFIROLEN_REFUSED_SHORTAGE = 2, /* the message would have to reach `position` */
+    BAFIROLEN_REFUSED_UNKNOWN_VERSION = 3,
+    BAFIROLEN_REFUSED_OTHER_VERSION = 4,
+    BAFIROLEN_REFUSED_MESSAGE_TYPE = 5,
+    BAFIROLEN_REFUSED_UNKNOWN_SUITE = 6,
+    BAFIROLEN_REFUSED_SUITE_OF_OTHER_VERSION = 7,
+    BAFIROLEN_REFUSED_COUNT_IN_EMPTY_CONTEXT = 8,
+    BAFIROLEN_REFUSED_NO_COUNT_IN_CONTEXT = 9,
+    BAFIROLEN_REFUSED_KEY_NOT_UTF8 = 10, /* a key of the context, as in 12 and 29 */
+    BAFIROLEN_REFUSED_VALUE_NOT_UTF8 = 11,
+    BAFIROLEN_REFUSED_KEY_SEEN_BEFORE = 12,
+    BAFIROLEN_REFUSED_PAIRS_TOO_LONG = 13,
+    BAFIROLEN_REFUSED_CONTEXT_LENGTH = 14,
+    BAFIROLEN_REFUSED_TOO_MANY_KEYS = 15, /* encrypted data keys, as in 16 and 23 */
+    BAFIROLEN_REFUSED_PROVIDER_ID_NOT_UTF8 = 16,
+    BAFIROLEN_REFUSED_CONTENT_TYPE = 17,
+    BAFIROLEN_REFUSED_RESERVED_BYTES = 18,
+    BAFIROLEN_REFUSED_IV_LENGTH = 19,
+    BAFIROLEN_REFUSED_FRAME_LENGTH = 20,      /* framed content with frame length 0, or non-framed content with another */
+    BAFIROLEN_REFUSED_OLD_EMPTY_CONTEXT = 21, /* strict: 00 02 00 00 */
+    BAFIROLEN_REFUSED_PAIR_TABLE_TOO_SHORT = 22,
+    BAFIROLEN_REFUSED_KEY_TABLE_TOO_SHORT = 23,
+    BAFIROLEN_REFUSED_ID_LENGTH = 24,         /* 16 bytes in version 1, 32 in version 2 */
+    BAFIROLEN_REFUSED_SUITE_DATA_LENGTH = 25, /* 0 bytes in version 1, 32 in version 2 */
+    BAFIROLEN_REFUSED_TABLE_OR_PLACE = 26,
+    BAFIROLEN_REFUSED_COUNT_OR_PART_TOO_LONG = 27,
+    BAFIROLEN_REFUSED_OUTPUT_TOO_SHORT = 28,
+    BAFIROLEN_REFUSED_NOT_FOUND = 29,
+    BAFIROLEN_REFUSED_TAG_LENGTH = 30
 };
 
 /* A refusal in words. Any other number has the words for unknown ones. */

@@ -82,13 +82,13 @@ void empty_vectors()
     Bytes message, out;
     Table pairs, keys;
     BafirolenBody b = read(message, pairs, keys);
-    same("no message", b.number == BAFIROLEN_SHORTAGE && b.position == 1 && b.tail == 0, true);
+    same("no message", b.number == BAFIROLEN_REFUSED_SHORTAGE && b.position == 1 && b.tail == 0, true);
     b = read(H, pairs, keys);
-    same("no pair table", b.number == BAFIROLEN_PAIR_TABLE_TOO_SHORT && b.position == 0 && b.tail == 0, true);
+    same("no pair table", b.number == BAFIROLEN_REFUSED_PAIR_TABLE_TOO_SHORT && b.position == 0 && b.tail == 0, true);
     const BafirolenPlace p = bafirolen_find_value(H.data(), H.size(), 20, message.data(), message.size());
-    same("the empty key", p.number == BAFIROLEN_NOT_FOUND && p.position == 0 && p.start == 0 && p.len == 0, true);
+    same("the empty key", p.number == BAFIROLEN_REFUSED_NOT_FOUND && p.position == 0 && p.start == 0 && p.len == 0, true);
     BafirolenWritten w = bafirolen_write_aad_section(message.data(), 0, pairs.data(), 0, out.data(), out.size());
-    same("no room", w.number == BAFIROLEN_OUTPUT_TOO_SHORT && w.position == 0 && w.length == 0, true);
+    same("no room", w.number == BAFIROLEN_REFUSED_OUTPUT_TOO_SHORT && w.position == 0 && w.length == 0, true);
     out.resize(2, 0xEE);
     w = bafirolen_write_aad_section(message.data(), 0, pairs.data(), 0, out.data(), out.size());
     same("no pairs", w.number == 0 && w.position == 0 && w.length == 2, true);
@@ -100,7 +100,7 @@ void empty_vectors()
 int main()
 {
     same("the version of the declarations", bafirolen_version(), uint32_t(BAFIROLEN_VERSION));
-    same("the text of a refusal", std::string(bafirolen_refusal_text(BAFIROLEN_NOT_FOUND)), "no pair has the key");
+    same("the text of a refusal", std::string(bafirolen_refusal_text(BAFIROLEN_REFUSED_NOT_FOUND)), "no pair has the key");
     same("the text of no refusal", std::string(bafirolen_refusal_text(31)), "unknown refusal");
     read_and_write_again();
     empty_vectors();

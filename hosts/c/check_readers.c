@@ -57,30 +57,30 @@ static void read_bodies(void)
     same("around H", guarded.before == KEPT && guarded.after == KEPT, 1);
     table_is("H's pairs", pairs, H_pairs, 4);
     table_is("H's keys", keys, H_keys, 6);
-    read_as("H cut to 57", H, 57, 0, plain, BAFIROLEN_SHORTAGE, 58);
-    read_as("H cut to 22", H, 22, 0, plain, BAFIROLEN_SHORTAGE, 34);
-    read_as("start 70", H, 58, 70, plain, BAFIROLEN_SHORTAGE, 71);
-    read_as("the empty message", H, 0, 0, plain, BAFIROLEN_SHORTAGE, 1);
-    read_as("a start of 33 bits", H, 58, 4294967296u, plain, BAFIROLEN_NOT_ADDRESSABLE, 0);
-    read_as("H at 1", H, 58, 1, plain, BAFIROLEN_UNKNOWN_VERSION, 0);
+    read_as("H cut to 57", H, 57, 0, plain, BAFIROLEN_REFUSED_SHORTAGE, 58);
+    read_as("H cut to 22", H, 22, 0, plain, BAFIROLEN_REFUSED_SHORTAGE, 34);
+    read_as("start 70", H, 58, 70, plain, BAFIROLEN_REFUSED_SHORTAGE, 71);
+    read_as("the empty message", H, 0, 0, plain, BAFIROLEN_REFUSED_SHORTAGE, 1);
+    read_as("a start of 33 bits", H, 58, 4294967296u, plain, BAFIROLEN_REFUSED_NOT_ADDRESSABLE, 0);
+    read_as("H at 1", H, 58, 1, plain, BAFIROLEN_REFUSED_UNKNOWN_VERSION, 0);
     read_as("version 1 only", H, 58, 0, one, BAFIROLEN_ACCEPTED, 0);
-    read_as("version 2 only", H, 58, 0, two, BAFIROLEN_OTHER_VERSION, 0);
+    read_as("version 2 only", H, 58, 0, two, BAFIROLEN_REFUSED_OTHER_VERSION, 0);
     read_as("another number", H, 58, 0, other, BAFIROLEN_ACCEPTED, 0);
-    read_as("no key", H, 58, 0, no_key, BAFIROLEN_TOO_MANY_KEYS, 0);
+    read_as("no key", H, 58, 0, no_key, BAFIROLEN_REFUSED_TOO_MANY_KEYS, 0);
     read_as("one key", H, 58, 0, one_key, BAFIROLEN_ACCEPTED, 0);
-    read_as("a pair table of 3", H, 58, 0, few_pairs, BAFIROLEN_PAIR_TABLE_TOO_SHORT, 0);
-    read_as("a key table of 5", H, 58, 0, few_keys, BAFIROLEN_KEY_TABLE_TOO_SHORT, 0);
+    read_as("a pair table of 3", H, 58, 0, few_pairs, BAFIROLEN_REFUSED_PAIR_TABLE_TOO_SHORT, 0);
+    read_as("a key table of 5", H, 58, 0, few_keys, BAFIROLEN_REFUSED_KEY_TABLE_TOO_SHORT, 0);
 }
 
 static void numbers_and_positions(void)
 {
     same("number of H", bafirolen_header_number(H, 58, 0), 0);
     same("position of H", bafirolen_header_position(H, 58, 0), 58);
-    same("number of H cut", bafirolen_header_number(H, 57, 0), BAFIROLEN_SHORTAGE);
+    same("number of H cut", bafirolen_header_number(H, 57, 0), BAFIROLEN_REFUSED_SHORTAGE);
     same("position of H cut", bafirolen_header_position(H, 57, 0), 58);
-    same("number at 70", bafirolen_header_number(H, 58, 70), BAFIROLEN_SHORTAGE);
+    same("number at 70", bafirolen_header_number(H, 58, 70), BAFIROLEN_REFUSED_SHORTAGE);
     same("position at 70", bafirolen_header_position(H, 58, 70), 71);
-    same("number of a long start", bafirolen_header_number(H, 58, UINT64_MAX), BAFIROLEN_NOT_ADDRESSABLE);
+    same("number of a long start", bafirolen_header_number(H, 58, UINT64_MAX), BAFIROLEN_REFUSED_NOT_ADDRESSABLE);
     same("position of a long start", bafirolen_header_position(H, 58, UINT64_MAX), 0);
 }
 
@@ -99,17 +99,17 @@ static void sections(void)
     } rows[] = {
         {{0}, 2, 0, 0, 0, 0, 2},
         {{0, 2}, 4, 0, 0, 0, 0, 4},
-        {{0, 2}, 4, 1, BAFIROLEN_OLD_EMPTY_CONTEXT, 0, 0, 0},
-        {{0, 2}, 4, 255, BAFIROLEN_OLD_EMPTY_CONTEXT, 0, 0, 0},
-        {{0, 2, 0, 1}, 4, 0, BAFIROLEN_COUNT_IN_EMPTY_CONTEXT, 0, 0, 0},
-        {{0, 3}, 5, 0, BAFIROLEN_NO_COUNT_IN_CONTEXT, 0, 0, 0},
-        {{0, 1}, 3, 0, BAFIROLEN_SHORTAGE, 4, 0, 0},
-        {{0, 1}, 4, 0, BAFIROLEN_NO_COUNT_IN_CONTEXT, 0, 0, 0},
+        {{0, 2}, 4, 1, BAFIROLEN_REFUSED_OLD_EMPTY_CONTEXT, 0, 0, 0},
+        {{0, 2}, 4, 255, BAFIROLEN_REFUSED_OLD_EMPTY_CONTEXT, 0, 0, 0},
+        {{0, 2, 0, 1}, 4, 0, BAFIROLEN_REFUSED_COUNT_IN_EMPTY_CONTEXT, 0, 0, 0},
+        {{0, 3}, 5, 0, BAFIROLEN_REFUSED_NO_COUNT_IN_CONTEXT, 0, 0, 0},
+        {{0, 1}, 3, 0, BAFIROLEN_REFUSED_SHORTAGE, 4, 0, 0},
+        {{0, 1}, 4, 0, BAFIROLEN_REFUSED_NO_COUNT_IN_CONTEXT, 0, 0, 0},
         {{0, 6, 0, 1}, 8, 0, 0, 0, 1, 8},
-        {{0, 10, 0, 2}, 12, 0, BAFIROLEN_KEY_SEEN_BEFORE, 0, 0, 0},
-        {{0, 8, 0, 1, 0, 2, 0xC0, 0x80}, 10, 0, BAFIROLEN_KEY_NOT_UTF8, 0, 0, 0},
-        {{0, 4, 0, 1, 0, 5}, 6, 0, BAFIROLEN_SHORTAGE, 11, 0, 0},
-        {{0, 4, 0, 1, 0, 5, 0x61, 0x62, 0x63, 0x64, 0x65}, 13, 0, BAFIROLEN_CONTEXT_LENGTH, 0, 0, 0},
+        {{0, 10, 0, 2}, 12, 0, BAFIROLEN_REFUSED_KEY_SEEN_BEFORE, 0, 0, 0},
+        {{0, 8, 0, 1, 0, 2, 0xC0, 0x80}, 10, 0, BAFIROLEN_REFUSED_KEY_NOT_UTF8, 0, 0, 0},
+        {{0, 4, 0, 1, 0, 5}, 6, 0, BAFIROLEN_REFUSED_SHORTAGE, 11, 0, 0},
+        {{0, 4, 0, 1, 0, 5, 0x61, 0x62, 0x63, 0x64, 0x65}, 13, 0, BAFIROLEN_REFUSED_CONTEXT_LENGTH, 0, 0, 0},
     };
     static const uint32_t empty_pair[4] = {6, 0, 8, 0};
     BafirolenSection s;
@@ -135,8 +135,8 @@ static void keys_as(const char *what, size_t n, uint32_t has_max, uint64_t max, 
 static void key_sections(void)
 {
     keys_as("the key section", 58, BAFIROLEN_NO_MAX, 0, 0, 0);
-    keys_as("a maximum of 0", 58, BAFIROLEN_AT_MOST, 0, BAFIROLEN_TOO_MANY_KEYS, 0);
-    keys_as("a key section cut", 40, BAFIROLEN_AT_MOST, UINT64_MAX, BAFIROLEN_SHORTAGE, 42);
+    keys_as("a maximum of 0", 58, BAFIROLEN_AT_MOST, 0, BAFIROLEN_REFUSED_TOO_MANY_KEYS, 0);
+    keys_as("a key section cut", 40, BAFIROLEN_AT_MOST, UINT64_MAX, BAFIROLEN_REFUSED_SHORTAGE, 42);
 }
 
 static void find(void)
@@ -145,9 +145,9 @@ static void find(void)
         const char *key;
         uint64_t number, start, len;
     } rows[] = {{"lang", 0, 32, 2},
-                {"lan", BAFIROLEN_NOT_FOUND, 0, 0},
-                {"langu", BAFIROLEN_NOT_FOUND, 0, 0},
-                {"", BAFIROLEN_NOT_FOUND, 0, 0}};
+                {"lan", BAFIROLEN_REFUSED_NOT_FOUND, 0, 0},
+                {"langu", BAFIROLEN_REFUSED_NOT_FOUND, 0, 0},
+                {"", BAFIROLEN_REFUSED_NOT_FOUND, 0, 0}};
     BafirolenPlace p;
     size_t i;
     for (i = 0; i < COUNT(rows); i++) {
@@ -165,12 +165,12 @@ static void find(void)
     }
     fresh();
     written_is("a value into 1 byte", bafirolen_copy_value(H, 58, 20, (const uint8_t *)"lang", 4, out, 1),
-               BAFIROLEN_OUTPUT_TOO_SHORT, 0);
+               BAFIROLEN_REFUSED_OUTPUT_TOO_SHORT, 0);
     output_is("a value into 1 byte", fresh_bytes, 0);
-    written_at("a copy of a section cut", bafirolen_copy_value(H, 30, 20, H, 0, out, BYTES), BAFIROLEN_SHORTAGE, 34, 0);
+    written_at("a copy of a section cut", bafirolen_copy_value(H, 30, 20, H, 0, out, BYTES), BAFIROLEN_REFUSED_SHORTAGE, 34, 0);
     output_is("a copy of a section cut", fresh_bytes, 0);
     p = bafirolen_find_value(H, 30, 20, H, 0);
-    same("a section cut", p.number, BAFIROLEN_SHORTAGE);
+    same("a section cut", p.number, BAFIROLEN_REFUSED_SHORTAGE);
     same("a section cut", p.position, 34);
     same("a section cut", p.start, 0);
     same("a section cut", p.len, 0);
@@ -194,15 +194,15 @@ static void unknown_versions(void)
         memcpy(m, rows[i].which == 1 ? H : (const uint8_t *)"\x02\x05\x78", rows[i].which == 1 ? 54 : 3);
         m[rows[i].content] = rows[i].content_type;
         m[rows[i].frame] = rows[i].frame_length;
-        read_as("20, either version", m, rows[i].len, 0, q, BAFIROLEN_FRAME_LENGTH, 0);
+        read_as("20, either version", m, rows[i].len, 0, q, BAFIROLEN_REFUSED_FRAME_LENGTH, 0);
         for (k = 0; k < COUNT(unknown); k++) {
             q[0] = unknown[k];
-            read_as("20, a number that names no version", m, rows[i].len, 0, q, BAFIROLEN_FRAME_LENGTH, 0);
+            read_as("20, a number that names no version", m, rows[i].len, 0, q, BAFIROLEN_REFUSED_FRAME_LENGTH, 0);
         }
         q[0] = rows[i].which;
         read_as("20, its version", m, rows[i].len, 0, q, BAFIROLEN_ACCEPTED, 0);
         q[0] = 3 - rows[i].which;
-        read_as("20, the other version", m, rows[i].len, 0, q, BAFIROLEN_OTHER_VERSION, 0);
+        read_as("20, the other version", m, rows[i].len, 0, q, BAFIROLEN_REFUSED_OTHER_VERSION, 0);
     }
 }
 
@@ -220,14 +220,14 @@ static void unknown_modes(void)
     section_is("the old form, tolerant", s, 0, 0, 0, 24);
     read_as("a body of the old form, tolerant", m, 48, 0, q, BAFIROLEN_ACCEPTED, 0);
     q[1] = BAFIROLEN_STRICT;
-    read_as("a body of the old form, strict", m, 48, 0, q, BAFIROLEN_OLD_EMPTY_CONTEXT, 0);
+    read_as("a body of the old form, strict", m, 48, 0, q, BAFIROLEN_REFUSED_OLD_EMPTY_CONTEXT, 0);
     for (k = 0; k < COUNT(unknown); k++) {
         fresh();
         s = bafirolen_read_aad_section(m, 48, 20, unknown[k], pairs, NUMBERS);
-        section_is("the old form, a number that names no mode", s, BAFIROLEN_OLD_EMPTY_CONTEXT, 0, 0, 0);
+        section_is("the old form, a number that names no mode", s, BAFIROLEN_REFUSED_OLD_EMPTY_CONTEXT, 0, 0, 0);
         table_is("the old form, a number that names no mode", pairs, fresh_numbers, 0);
         q[1] = unknown[k];
-        read_as("a body, a number that names no mode", m, 48, 0, q, BAFIROLEN_OLD_EMPTY_CONTEXT, 0);
+        read_as("a body, a number that names no mode", m, 48, 0, q, BAFIROLEN_REFUSED_OLD_EMPTY_CONTEXT, 0);
         read_as("H, a number that names no mode", H, 58, 0, q, BAFIROLEN_ACCEPTED, 0);
     }
 }
@@ -239,11 +239,11 @@ static void unknown_maxima(void)
     size_t k;
     read_as("no maximum", H, 58, 0, q, BAFIROLEN_ACCEPTED, 0);
     for (k = 0; k < COUNT(unknown); k++) {
-        keys_as("at most 0 keys", 58, unknown[k], 0, BAFIROLEN_TOO_MANY_KEYS, 0);
+        keys_as("at most 0 keys", 58, unknown[k], 0, BAFIROLEN_REFUSED_TOO_MANY_KEYS, 0);
         keys_as("at most 1 key", 58, unknown[k], 1, BAFIROLEN_ACCEPTED, 0);
         q[2] = unknown[k];
         q[3] = 0;
-        read_as("a body of at most 0 keys", H, 58, 0, q, BAFIROLEN_TOO_MANY_KEYS, 0);
+        read_as("a body of at most 0 keys", H, 58, 0, q, BAFIROLEN_REFUSED_TOO_MANY_KEYS, 0);
         q[3] = 1;
         read_as("a body of at most 1 key", H, 58, 0, q, BAFIROLEN_ACCEPTED, 0);
     }

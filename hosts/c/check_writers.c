@@ -14,13 +14,13 @@ static void write_sections(void)
     output_is("the context section", H + 20, 14);
     fresh();
     w = bafirolen_write_aad_section(H, 58, H_pairs, 4, out, 13);
-    written_is("an output of 13", w, BAFIROLEN_OUTPUT_TOO_SHORT, 0);
+    written_is("an output of 13", w, BAFIROLEN_REFUSED_OUTPUT_TOO_SHORT, 0);
     output_is("an output of 13", fresh_bytes, 0);
     w = bafirolen_write_aad_section(H, 58, H_pairs, 3, out, BYTES);
-    written_is("a table of 3", w, BAFIROLEN_TABLE_OR_PLACE, 0);
+    written_is("a table of 3", w, BAFIROLEN_REFUSED_TABLE_OR_PLACE, 0);
     output_is("a table of 3", fresh_bytes, 0);
     w = bafirolen_write_aad_section(H, 58, outside, 4, out, BYTES);
-    written_is("a place outside", w, BAFIROLEN_TABLE_OR_PLACE, 0);
+    written_is("a place outside", w, BAFIROLEN_REFUSED_TABLE_OR_PLACE, 0);
     output_is("a place outside", fresh_bytes, 0);
     w = bafirolen_write_encrypted_data_keys_section(H, 58, H_keys, 6, out, BYTES);
     written_is("the key section", w, 0, 14);
@@ -46,21 +46,21 @@ static void write_bodies(void)
         const char *what;
         BafirolenNumbers numbers;
         uint64_t number;
-    } refusals[] = {{"version", {3, 0x80, 0x0178, 2, 12, 4096}, BAFIROLEN_UNKNOWN_VERSION},
-                    {"version 257", {257, 0x80, 0x0178, 2, 12, 4096}, BAFIROLEN_UNKNOWN_VERSION},
-                    {"type", {1, 0x81, 0x0178, 2, 12, 4096}, BAFIROLEN_MESSAGE_TYPE},
-                    {"suite", {1, 0x80, 0x7801, 2, 12, 4096}, BAFIROLEN_UNKNOWN_SUITE},
-                    {"suite 10178", {1, 0x80, 0x10178, 2, 12, 4096}, BAFIROLEN_UNKNOWN_SUITE},
-                    {"suite of version 2", {1, 0x80, 0x0478, 2, 12, 4096}, BAFIROLEN_SUITE_OF_OTHER_VERSION},
-                    {"content type", {1, 0x80, 0x0178, 3, 12, 4096}, BAFIROLEN_CONTENT_TYPE},
-                    {"IV length", {1, 0x80, 0x0178, 2, 13, 4096}, BAFIROLEN_IV_LENGTH},
-                    {"IV length 10C", {1, 0x80, 0x0178, 2, 0x10C, 4096}, BAFIROLEN_IV_LENGTH},
-                    {"frame length", {1, 0x80, 0x0178, 2, 12, 0}, BAFIROLEN_FRAME_LENGTH}};
+    } refusals[] = {{"version", {3, 0x80, 0x0178, 2, 12, 4096}, BAFIROLEN_REFUSED_UNKNOWN_VERSION},
+                    {"version 257", {257, 0x80, 0x0178, 2, 12, 4096}, BAFIROLEN_REFUSED_UNKNOWN_VERSION},
+                    {"type", {1, 0x81, 0x0178, 2, 12, 4096}, BAFIROLEN_REFUSED_MESSAGE_TYPE},
+                    {"suite", {1, 0x80, 0x7801, 2, 12, 4096}, BAFIROLEN_REFUSED_UNKNOWN_SUITE},
+                    {"suite 10178", {1, 0x80, 0x10178, 2, 12, 4096}, BAFIROLEN_REFUSED_UNKNOWN_SUITE},
+                    {"suite of version 2", {1, 0x80, 0x0478, 2, 12, 4096}, BAFIROLEN_REFUSED_SUITE_OF_OTHER_VERSION},
+                    {"content type", {1, 0x80, 0x0178, 3, 12, 4096}, BAFIROLEN_REFUSED_CONTENT_TYPE},
+                    {"IV length", {1, 0x80, 0x0178, 2, 13, 4096}, BAFIROLEN_REFUSED_IV_LENGTH},
+                    {"IV length 10C", {1, 0x80, 0x0178, 2, 0x10C, 4096}, BAFIROLEN_REFUSED_IV_LENGTH},
+                    {"frame length", {1, 0x80, 0x0178, 2, 12, 0}, BAFIROLEN_REFUSED_FRAME_LENGTH}};
     size_t i;
     write_with("H written", n, 16, 58, 0);
     output_is("H written", H, 58);
-    write_with("an output of 57", n, 16, 57, BAFIROLEN_OUTPUT_TOO_SHORT);
-    write_with("an ID of 15", n, 15, BYTES, BAFIROLEN_ID_LENGTH);
+    write_with("an output of 57", n, 16, 57, BAFIROLEN_REFUSED_OUTPUT_TOO_SHORT);
+    write_with("an ID of 15", n, 15, BYTES, BAFIROLEN_REFUSED_ID_LENGTH);
     for (i = 0; i < COUNT(refusals); i++) {
         write_with(refusals[i].what, refusals[i].numbers, 16, BYTES, refusals[i].number);
     }
@@ -77,14 +77,14 @@ static void refuse_version_2(void)
         BafirolenNumbers numbers;
         size_t id, data;
         uint64_t number;
-    } rows[] = {{"a type in version 2", {2, 0x80, 0x0578, 1, 0, 0}, 32, 32, BAFIROLEN_MESSAGE_TYPE},
-                {"a type of 256 in version 2", {2, 0x100, 0x0578, 1, 0, 0}, 32, 32, BAFIROLEN_MESSAGE_TYPE},
-                {"an ID of 16 in version 2", {2, 0, 0x0578, 1, 0, 0}, 16, 32, BAFIROLEN_ID_LENGTH},
-                {"an IV length in version 2", {2, 0, 0x0578, 1, 12, 0}, 32, 32, BAFIROLEN_IV_LENGTH},
-                {"an IV length of 256 in version 2", {2, 0, 0x0578, 1, 0x100, 0}, 32, 32, BAFIROLEN_IV_LENGTH},
-                {"suite data of 31", {2, 0, 0x0578, 1, 0, 0}, 32, 31, BAFIROLEN_SUITE_DATA_LENGTH},
-                {"no suite data", {2, 0, 0x0578, 1, 0, 0}, 32, 0, BAFIROLEN_SUITE_DATA_LENGTH},
-                {"a frame length, non-framed", {2, 0, 0x0578, 1, 0, 1}, 32, 32, BAFIROLEN_FRAME_LENGTH}};
+    } rows[] = {{"a type in version 2", {2, 0x80, 0x0578, 1, 0, 0}, 32, 32, BAFIROLEN_REFUSED_MESSAGE_TYPE},
+                {"a type of 256 in version 2", {2, 0x100, 0x0578, 1, 0, 0}, 32, 32, BAFIROLEN_REFUSED_MESSAGE_TYPE},
+                {"an ID of 16 in version 2", {2, 0, 0x0578, 1, 0, 0}, 16, 32, BAFIROLEN_REFUSED_ID_LENGTH},
+                {"an IV length in version 2", {2, 0, 0x0578, 1, 12, 0}, 32, 32, BAFIROLEN_REFUSED_IV_LENGTH},
+                {"an IV length of 256 in version 2", {2, 0, 0x0578, 1, 0x100, 0}, 32, 32, BAFIROLEN_REFUSED_IV_LENGTH},
+                {"suite data of 31", {2, 0, 0x0578, 1, 0, 0}, 32, 31, BAFIROLEN_REFUSED_SUITE_DATA_LENGTH},
+                {"no suite data", {2, 0, 0x0578, 1, 0, 0}, 32, 0, BAFIROLEN_REFUSED_SUITE_DATA_LENGTH},
+                {"a frame length, non-framed", {2, 0, 0x0578, 1, 0, 1}, 32, 32, BAFIROLEN_REFUSED_FRAME_LENGTH}};
     BafirolenWritten w;
     size_t i;
     for (i = 0; i < COUNT(rows); i++) {
@@ -138,11 +138,11 @@ static void write_records(void)
         uint32_t suite;
         size_t iv, tag, room;
         uint64_t number;
-    } refusals[] = {{0, 0, 0, 0, BAFIROLEN_UNKNOWN_SUITE},
-                    {0x10178, 12, 16, 28, BAFIROLEN_UNKNOWN_SUITE},
-                    {0x0178, 11, 0, 0, BAFIROLEN_IV_LENGTH},
-                    {0x0478, 12, 15, 0, BAFIROLEN_TAG_LENGTH},
-                    {0x0178, 12, 16, 27, BAFIROLEN_OUTPUT_TOO_SHORT}};
+    } refusals[] = {{0, 0, 0, 0, BAFIROLEN_REFUSED_UNKNOWN_SUITE},
+                    {0x10178, 12, 16, 28, BAFIROLEN_REFUSED_UNKNOWN_SUITE},
+                    {0x0178, 11, 0, 0, BAFIROLEN_REFUSED_IV_LENGTH},
+                    {0x0478, 12, 15, 0, BAFIROLEN_REFUSED_TAG_LENGTH},
+                    {0x0178, 12, 16, 27, BAFIROLEN_REFUSED_OUTPUT_TOO_SHORT}};
     BafirolenWritten w;
     size_t i;
     fresh();
@@ -166,8 +166,8 @@ static void write_records(void)
 static void read_records(void)
 {
     static const uint64_t accepted[3] = {0, 0, 31}, of_2[3] = {0, 0, 19}, of_2_first[3] = {0, 0, 16};
-    static const uint64_t cut[3] = {BAFIROLEN_SHORTAGE, 31, 0}, cut_first[3] = {BAFIROLEN_SHORTAGE, 28, 0};
-    static const uint64_t unknown[3] = {BAFIROLEN_UNKNOWN_SUITE, 0, 0};
+    static const uint64_t cut[3] = {BAFIROLEN_REFUSED_SHORTAGE, 31, 0}, cut_first[3] = {BAFIROLEN_REFUSED_SHORTAGE, 28, 0};
+    static const uint64_t unknown[3] = {BAFIROLEN_REFUSED_UNKNOWN_SUITE, 0, 0};
     static const uint8_t none[16];
     uint8_t m[31];
     memset(m, KEPT, 3);
@@ -194,7 +194,7 @@ static void listings(void)
     output_is("H's listing", (const uint8_t *)H_listing, n);
     fresh();
     w = bafirolen_write_listing(H, 58, out, n - 1);
-    written_is("no room for H's listing", w, BAFIROLEN_OUTPUT_TOO_SHORT, 0);
+    written_is("no room for H's listing", w, BAFIROLEN_REFUSED_OUTPUT_TOO_SHORT, 0);
     output_is("no room for H's listing", fresh_bytes, 0);
     w = bafirolen_write_listing(H, 57, out, BYTES);
     written_is("the listing of a cut", w, 0, sizeof of_a_cut - 1);

@@ -137,7 +137,7 @@ static void write_again(const uint8_t *m, size_t n)
         k = lend(keys, 24 * b.keyCount);
         w = bafirolen_write_header_body(b.numbers, id, b.messageIdLen, data, b.suiteDataLen, text, n, p, 4 * b.pairCount, k,
                                      6 * b.keyCount, o, room);
-        written_is("a header", w, room < n ? BAFIROLEN_OUTPUT_TOO_SHORT : 0, room < n ? 0 : n);
+        written_is("a header", w, room < n ? BAFIROLEN_REFUSED_OUTPUT_TOO_SHORT : 0, room < n ? 0 : n);
         same_bytes("a header", o, room < n ? fresh_bytes : m, room);
         let_go();
     }
@@ -147,7 +147,7 @@ static void write_again(const uint8_t *m, size_t n)
 static void holds(const char *what, BafirolenWritten w, uint8_t *o, size_t room, const void *bytes, size_t n)
 {
     const size_t front = room < n ? 0 : n;
-    written_is(what, w, room < n ? BAFIROLEN_OUTPUT_TOO_SHORT : 0, front);
+    written_is(what, w, room < n ? BAFIROLEN_REFUSED_OUTPUT_TOO_SHORT : 0, front);
     same_bytes(what, o, bytes, front);
     same_bytes(what, o + front, fresh_bytes + front, room - front);
     memset(o, KEPT, room);

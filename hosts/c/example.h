@@ -30,7 +30,7 @@ static inline int usage(const char *line)
 /* A refusal: 1. A shortage says how many bytes are wanted, so that a caller who has them can come again. */
 static inline int refused(const char *program, uint64_t number, uint64_t position)
 {
-    if (number == BAFIROLEN_SHORTAGE) {
+    if (number == BAFIROLEN_REFUSED_SHORTAGE) {
         fprintf(stderr, "%s: refusal %" PRIu64 ": the message does not reach position %" PRIu64 "\n", program, number, position);
     } else {
         fprintf(stderr, "%s: refusal %" PRIu64 ": %s\n", program, number, bafirolen_refusal_text(number));

@@ -13,7 +13,11 @@ static const uint8_t text[] = {'l', 'a', 'n', 'g', 'c', 'y', 'p', '1', 'a', 0xAA
 static const uint32_t pairs[BAFIROLEN_NUMBERS_PER_PAIR] = {0, 4, 4, 2};
 static const uint32_t keys[BAFIROLEN_NUMBERS_PER_KEY] = {6, 2, 8, 1, 9, 3};
 static const uint8_t id[16] = {0, 1, 2, 3, 4, 5, 6, 7, 8, 9, 10, 11, 12, 13, 14, 15};
-static const BafirolenNumbers numbers = {1, 0x80, 0x0178, 2, 12, 4096};
+
+static BafirolenNumbers numbers(void)
+{
+    return bafirolen_v1_numbers(0x0178, BAFIROLEN_FRAMED, 4096);
+}
 
 /* n numbers of two tables, start and length by turns, lead to the same bytes */
 static int same_parts(const uint8_t *header, const uint32_t *read, const uint32_t *lent, size_t n)
@@ -31,9 +35,10 @@ static int same_parts(const uint8_t *header, const uint32_t *read, const uint32_
 static int reads_back(const uint8_t *header, size_t length)
 {
     uint32_t p[4], k[6];
+    const BafirolenNumbers n = numbers();
     const BafirolenBody b =
         bafirolen_read_header_body(header, length, 0, BAFIROLEN_EITHER, BAFIROLEN_STRICT, BAFIROLEN_NO_MAX, 0, p, 4, k, 6);
-    return b.number == BAFIROLEN_ACCEPTED && b.tail == length && memcmp(&b.numbers, &numbers, sizeof numbers) == 0
+    return b.number == BAFIROLEN_ACCEPTED && b.tail == length && memcmp(&b.numbers, &n, sizeof n) == 0
            && b.messageIdLen == sizeof id && memcmp(header + b.messageIdStart, id, sizeof id) == 0 && b.suiteDataLen == 0
            && b.pairCount == 1 && b.keyCount == 1 && same_parts(header, p, pairs, 4) && same_parts(header, k, keys, 6);
 }
@@ -60,7 +65,7 @@ int main(int argc, char **argv)
         return usage("file_header FILE");
     }
     /* version 1 has no suite data */
-    w = bafirolen_write_header_body(numbers, id, sizeof id, NULL, 0, text, sizeof text, pairs, 4, keys, 6, out, sizeof out);
+    w = bafirolen_write_header_body(numbers(), id, sizeof id, NULL, 0, text, sizeof text, pairs, 4, keys, 6, out, sizeof out);
     if (w.number != BAFIROLEN_ACCEPTED) {
         return refused(program, w.number, w.position);
     }

@@ -1,6 +1,6 @@
 /*
- * Writes the listing of the header in a file, as the listing program does of its standard input, and takes the file whole. A header
- * that is refused has a listing too, the one line that says so; the exit status is 0 exactly where the listing was written.
+ * Writes the listing of the header in a file, as the listing program does of its standard input, and takes the file whole. A
+ * header that is refused has a listing too, the one line that says so; the exit status is 0 exactly where the listing was written.
  *
  *     gcc -std=c99 -O2 -Wall -Wextra -Iinclude hosts/c/list_header.c target/staticlib/libbafirolen_c.a -o target/list_header
  *     target/list_header FILE

@@ -176,9 +176,10 @@ static void by_null_and_by_another(const struct export *e, void *behind)
 /* what a host sees where null is what it has: an empty message, no table, an empty key, no room */
 static void readers(void)
 {
-    static const uint64_t cut[15] = {BAFIROLEN_SHORTAGE, 1};
+    static const uint64_t cut[15] = {BAFIROLEN_REFUSED_SHORTAGE, 1};
     static const uint64_t bare[15] = {0, 0, 1, 0x80, 0x0178, 2, 12, 4096, 4, 16, 0, 0, 0, 0, 34};
-    static const uint64_t few_pairs[15] = {BAFIROLEN_PAIR_TABLE_TOO_SHORT}, few_keys[15] = {BAFIROLEN_KEY_TABLE_TOO_SHORT};
+    static const uint64_t few_pairs[15] = {BAFIROLEN_REFUSED_PAIR_TABLE_TOO_SHORT};
+    static const uint64_t few_keys[15] = {BAFIROLEN_REFUSED_KEY_TABLE_TOO_SHORT};
     BafirolenSection s;
     BafirolenPlace p;
     fresh();
@@ -196,7 +197,7 @@ static void readers(void)
     same("the empty key", p.number == 0 && p.position == 0 && p.len == 0, 1);
     same("the empty key", p.start, 43);
     same("a record of no message", bafirolen_read_header_auth_tag(NULL, 0, 0, 0x0178).position, 12);
-    same("number of no message", bafirolen_header_number(NULL, 0, 0), BAFIROLEN_SHORTAGE);
+    same("number of no message", bafirolen_header_number(NULL, 0, 0), BAFIROLEN_REFUSED_SHORTAGE);
     same("position of no message", bafirolen_header_position(NULL, 0, 0), 1);
     table_is("no table", pairs, fresh_numbers, 0);
     table_is("no table", keys, fresh_numbers, 0);
@@ -207,13 +208,14 @@ static void writers(void)
     const BafirolenNumbers n = headers[1].numbers;
     BafirolenWritten w;
     written_is("an empty value", bafirolen_copy_value(HOLLOW, 88, 35, NULL, 0, NULL, 0), 0, 0);
-    written_is("no pairs", bafirolen_write_aad_section(NULL, 0, NULL, 0, NULL, 0), BAFIROLEN_OUTPUT_TOO_SHORT, 0);
-    written_is("no keys", bafirolen_write_encrypted_data_keys_section(NULL, 0, NULL, 0, NULL, 0), BAFIROLEN_OUTPUT_TOO_SHORT, 0);
-    written_is("no IV", bafirolen_write_header_auth_tag(0x0178, NULL, 0, NULL, 0, NULL, 0), BAFIROLEN_IV_LENGTH, 0);
-    written_is("no tag", bafirolen_write_header_auth_tag(0x0178, H, 12, NULL, 0, NULL, 0), BAFIROLEN_TAG_LENGTH, 0);
-    written_is("no room for a record", bafirolen_write_header_auth_tag(0x0178, H, 12, H, 16, NULL, 0), BAFIROLEN_OUTPUT_TOO_SHORT,
+    written_is("no pairs", bafirolen_write_aad_section(NULL, 0, NULL, 0, NULL, 0), BAFIROLEN_REFUSED_OUTPUT_TOO_SHORT, 0);
+    written_is("no keys", bafirolen_write_encrypted_data_keys_section(NULL, 0, NULL, 0, NULL, 0),
+               BAFIROLEN_REFUSED_OUTPUT_TOO_SHORT, 0);
+    written_is("no IV", bafirolen_write_header_auth_tag(0x0178, NULL, 0, NULL, 0, NULL, 0), BAFIROLEN_REFUSED_IV_LENGTH, 0);
+    written_is("no tag", bafirolen_write_header_auth_tag(0x0178, H, 12, NULL, 0, NULL, 0), BAFIROLEN_REFUSED_TAG_LENGTH, 0);
+    written_is("no room for a record", bafirolen_write_header_auth_tag(0x0178, H, 12, H, 16, NULL, 0), BAFIROLEN_REFUSED_OUTPUT_TOO_SHORT,
                0);
-    written_is("no room for a listing", bafirolen_write_listing(NULL, 0, NULL, 0), BAFIROLEN_OUTPUT_TOO_SHORT, 0);
+    written_is("no room for a listing", bafirolen_write_listing(NULL, 0, NULL, 0), BAFIROLEN_REFUSED_OUTPUT_TOO_SHORT, 0);
     fresh();
     written_is("no pairs", bafirolen_write_aad_section(NULL, 0, NULL, 0, out, BYTES), 0, 2);
     output_is("no pairs", BARE + 20, 2);

@@ -70,7 +70,8 @@ pub struct BafirolenNumbers {
     pub content_type: u32,
     /// 12 in version 1, 0 in version 2.
     pub header_iv_length: u32,
-    /// Above 0 if the content is framed, else 0.
+    /// Above 0 if the content is framed, else 0; a reader that is asked for one
+    /// version does not test this.
     pub frame_length: u32,
 }
 
@@ -208,7 +209,9 @@ extern "C" {
         out_len: usize,
     ) -> BafirolenWritten;
 
-    /// 0 where the header at the start is accepted, else the refusal's number.
+    /// 0 where the header at the start is accepted, else the refusal's number;
+    /// read in either version, tolerantly, with no maximum and tables of 4,096
+    /// numbers.
     pub fn bafirolen_header_number(m: *const u8, m_len: usize, start: u64) -> u32;
 
     /// The tail where the header is accepted, else the refusal's position.

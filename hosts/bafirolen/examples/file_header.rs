@@ -11,7 +11,7 @@ use std::path::Path;
 use std::process::ExitCode;
 use std::{env, fs};
 
-const NUMBERS: Numbers = Numbers::version_1(0x0178, bafirolen::CONTENT_TYPE_FRAMED, 4_096);
+const NUMBERS: Numbers = Numbers::version_1(0x0178, bafirolen::FRAMED, 4_096);
 const MESSAGE_ID: [u8; 16] = [0, 1, 2, 3, 4, 5, 6, 7, 8, 9, 10, 11, 12, 13, 14, 15];
 const PAIRS: [Pair; 1] = [Pair {
     key: b"lang",

@@ -1,7 +1,7 @@
 //! The record that authenticates a header.
 
 use crate::writes::length;
-use crate::{Refusal, IV_LENGTH, TAG_LENGTH};
+use crate::{Refusal, IV_LEN, TAG_LEN};
 
 /// An accepted authentication record.
 #[derive(Clone, Copy, Debug, PartialEq, Eq, Hash)]
@@ -9,9 +9,9 @@ use crate::{Refusal, IV_LENGTH, TAG_LENGTH};
 #[must_use]
 pub struct AuthRecord {
     /// The IV. Version 2 stores none; it is twelve 00.
-    pub iv: [u8; IV_LENGTH],
+    pub iv: [u8; IV_LEN],
     /// The tag.
-    pub tag: [u8; TAG_LENGTH],
+    pub tag: [u8; TAG_LEN],
     /// The place right after the record.
     pub tail: u64,
 }
@@ -42,8 +42,8 @@ pub fn read_header_auth_tag(message: &[u8], start: u64, suite: u32) -> Result<Au
 }
 
 /// Writes the authentication record of a suite to the front of `out`; answers
-/// its length. Version 2 takes an IV of twelve bytes too, though it doesn't
-/// write it.
+/// its length: 28, or 16 in version 2, which takes an IV of twelve bytes too,
+/// though it doesn't write it.
 ///
 /// # Errors
 ///

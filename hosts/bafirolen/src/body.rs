@@ -56,7 +56,8 @@ impl<'m, 't> Body<'m, 't> {
 
     /// Where the context section begins, which is right after the message ID:
     /// the start to give to [`find_value`](crate::find_value),
-    /// [`find_bytes`](crate::find_bytes) and [`copy_value`](crate::copy_value).
+    /// [`find_bytes`](crate::find_bytes), [`find_part`](crate::find_part) and
+    /// [`copy_value`](crate::copy_value).
     #[inline]
     #[must_use]
     pub fn context_start(&self) -> u64 {
@@ -114,7 +115,8 @@ impl fmt::Debug for Body<'_, '_> {
 ///
 /// In the order of the tests:
 /// - 1 [`NotAddressable`](Refusal::NotAddressable);
-/// - 2 [`Shortage`](Refusal::Shortage), before each part that is read;
+/// - 2 [`Shortage`](Refusal::Shortage), where the next field is not all there;
+///   the context section is awaited whole, once its length is read;
 /// - 3 [`UnknownVersion`](Refusal::UnknownVersion);
 /// - 4 [`OtherVersion`](Refusal::OtherVersion), if one version is asked for;
 /// - 5 [`MessageType`](Refusal::MessageType), in version 1;

@@ -16,26 +16,43 @@ pub const LARGEST_PAIR_TABLE: usize = NUMBERS_PER_PAIR * 16_383;
 /// bits.
 pub const LARGEST_KEY_TABLE: usize = NUMBERS_PER_KEY * 65_535;
 
+/// Bytes of stack that a call to read a context or a body, or to find or copy a
+/// value, may take. This figure and the three below were measured on the
+/// archive and rounded up, and a test holds it to them; nothing proves them.
+pub const STACK_READ: usize = 40_960;
+
+/// Bytes of stack for key sections and authentication records, read or written.
+pub const STACK_KEYS: usize = 1_024;
+
+/// Bytes of stack for [`header_number`](crate::header_number),
+/// [`header_position`](crate::header_position) and
+/// [`write_listing`](crate::write_listing), whose tables lie there.
+pub const STACK_LISTED: usize = 73_728;
+
+/// Bytes of stack to write a context or a body.
+pub const STACK_WRITE: usize = 143_360;
+
 /// The type of a message, stored in version 1 only.
-pub const MESSAGE_TYPE: u32 = 0x80;
+pub const V1_MESSAGE_TYPE: u32 = 0x80;
 
 /// The content is in one piece; its frame length is 0.
-pub const CONTENT_TYPE_NON_FRAMED: u32 = 1;
+pub const NON_FRAMED: u32 = 1;
 
-/// The content is in frames; their length is above 0.
-pub const CONTENT_TYPE_FRAMED: u32 = 2;
+/// The content is in frames; their length is above 0. (A reader that is asked
+/// for one version does not test either.)
+pub const FRAMED: u32 = 2;
 
 /// How many bytes an IV has, in every suite.
-pub const IV_LENGTH: usize = 12;
+pub const IV_LEN: usize = 12;
 
 /// How many bytes a tag has, in every suite.
-pub const TAG_LENGTH: usize = 16;
+pub const TAG_LEN: usize = 16;
 
 /// How many bytes the message ID of version 1 has.
-pub const V1_MESSAGE_ID_LENGTH: usize = 16;
+pub const V1_MESSAGE_ID_LEN: usize = 16;
 
 /// How many bytes the message ID of version 2 has.
-pub const V2_MESSAGE_ID_LENGTH: usize = 32;
+pub const V2_MESSAGE_ID_LEN: usize = 32;
 
 /// How many bytes the suite data of version 2 have; version 1 has none.
-pub const V2_SUITE_DATA_LENGTH: usize = 32;
+pub const V2_SUITE_DATA_LEN: usize = 32;

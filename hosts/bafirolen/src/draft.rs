@@ -1,6 +1,6 @@
 //! What a body is written from.
 
-use crate::{IV_LENGTH, MESSAGE_TYPE};
+use crate::{IV_LEN, V1_MESSAGE_TYPE};
 use bafirolen_sys::BafirolenNumbers;
 
 /// The fields of a body that are numbers, as the reader gives them and the
@@ -12,15 +12,15 @@ use bafirolen_sys::BafirolenNumbers;
 pub struct Numbers {
     /// 1 or 2.
     pub version: u32,
-    /// [`MESSAGE_TYPE`] in version 1, 0 in version 2.
+    /// [`V1_MESSAGE_TYPE`] in version 1, 0 in version 2.
     pub message_type: u32,
     /// The algorithm suite. Version 1: 0x0014, 0x0046, 0x0078, 0x0114, 0x0146,
     /// 0x0178, 0x0214, 0x0346, 0x0378; version 2: 0x0478, 0x0578.
     pub suite: u32,
-    /// [`CONTENT_TYPE_NON_FRAMED`](crate::CONTENT_TYPE_NON_FRAMED) or
-    /// [`CONTENT_TYPE_FRAMED`](crate::CONTENT_TYPE_FRAMED).
+    /// [`NON_FRAMED`](crate::NON_FRAMED) or
+    /// [`FRAMED`](crate::FRAMED).
     pub content_type: u32,
-    /// [`IV_LENGTH`] in version 1, 0 in version 2.
+    /// [`IV_LEN`] in version 1, 0 in version 2.
     pub header_iv_length: u32,
     /// Above 0 if the content is framed, else 0; a reader of one version does
     /// not test this.
@@ -33,10 +33,10 @@ impl Numbers {
     pub const fn version_1(suite: u32, content_type: u32, frame_length: u32) -> Numbers {
         Numbers {
             version: 1,
-            message_type: MESSAGE_TYPE,
+            message_type: V1_MESSAGE_TYPE,
             suite,
             content_type,
-            header_iv_length: IV_LENGTH as u32,
+            header_iv_length: IV_LEN as u32,
             frame_length,
         }
     }
@@ -93,10 +93,10 @@ impl Numbers {
 /// 2 more; 4 for each pair, 6 for each key, and their parts.
 ///
 /// ```
-/// use bafirolen::{Draft, Numbers, CONTENT_TYPE_NON_FRAMED};
+/// use bafirolen::{Draft, Numbers, NON_FRAMED};
 ///
 /// // Version 2, without pairs and keys.
-/// let numbers = Numbers::version_2(0x0478, CONTENT_TYPE_NON_FRAMED, 0);
+/// let numbers = Numbers::version_2(0x0478, NON_FRAMED, 0);
 /// let draft = Draft::new(numbers, &[7; 32]).with_suite_data(&[8; 32]);
 /// let mut out = [0; 100];
 /// assert_eq!(bafirolen::write_header_body(&draft, &mut out), Ok(76));

@@ -14,7 +14,7 @@ use crate::{Place, Refusal};
 ///
 /// In the order of the tests:
 /// - 1 [`NotAddressable`](Refusal::NotAddressable);
-/// - 2 [`Shortage`](Refusal::Shortage), before each part that is read;
+/// - 2 [`Shortage`](Refusal::Shortage), where the next field is not all there;
 /// - 8 [`CountInEmptyContext`](Refusal::CountInEmptyContext);
 /// - 9 [`NoCountInContext`](Refusal::NoCountInContext);
 /// - of each pair 10 [`KeyNotUtf8`](Refusal::KeyNotUtf8),

@@ -8,6 +8,7 @@ use crate::Refusal;
 /// refusal's number. It reads either version, tolerantly, with tables of 4,096
 /// numbers, so at most 1,024 pairs and 682 keys; where these are too short (22,
 /// 23), [`read_header_body`](crate::read_header_body) is lent longer ones.
+/// [`Refusal::from_number`] joins a number that is not 0 with its position.
 #[inline]
 #[must_use]
 pub fn header_number(message: &[u8], start: u64) -> u32 {
@@ -35,7 +36,9 @@ pub fn header_position(message: &[u8], start: u64) -> u64 {
 /// `header`, version, type, suite, content type, frame length and tail; `id` and
 /// the message ID; for each pair `pair`, key and value; for each key `key`,
 /// provider ID, provider info and ciphertext; in version 2 `data` and the suite
-/// data. Version, frame length and tail are decimal, all else hexadecimal.
+/// data. Type and content type have two hexadecimal digits, the suite four, each
+/// byte two, lower-case and without 0x; the type of version 2 is 00, and an
+/// empty part leaves nothing between its tabs; all other numbers are decimal.
 ///
 /// # Errors
 ///

@@ -53,14 +53,14 @@
 //! # Writing
 //!
 //! ```
-//! use bafirolen::{write_header_body, Draft, Numbers, CONTENT_TYPE_FRAMED};
+//! use bafirolen::{write_header_body, Draft, Numbers, FRAMED};
 //!
 //! # fn main() -> Result<(), bafirolen::Refusal> {
 //! let text = b"langcyp1a\xAA\xBB\xCC";
 //! let pairs = [0, 4, 4, 2]; // "lang" and "cy"
 //! let keys = [6, 2, 8, 1, 9, 3]; // "p1", "a" and AA BB CC
 //! let message_id = [0x11; 16];
-//! let draft = Draft::new(Numbers::version_1(0x0178, CONTENT_TYPE_FRAMED, 4_096), &message_id)
+//! let draft = Draft::new(Numbers::version_1(0x0178, FRAMED, 4_096), &message_id)
 //!     .with_tables(text, &pairs, &keys);
 //! let mut out = [0; 256];
 //! let length = write_header_body(&draft, &mut out)?;
@@ -93,8 +93,8 @@
 //! #   message.len() < 64
 //! }
 //!
-//! /// Fetches until the header is there or is refused, and no more than
-//! /// `limit` bytes.
+//! /// Fetches until the header is there or is refused. Gives up where it needs
+//! /// more than `limit` bytes.
 //! fn fetched(message: &mut Vec<u8>, limit: u64) -> Result<(), Refusal> {
 //!     let (mut pairs, mut keys) = ([0; 40], [0; 60]);
 //!     loop {
@@ -128,15 +128,12 @@
 //! operations touch nothing at or beyond a length.
 //! `&mut` keeps what is filled apart from all else, and the operations have
 //! no condition on the numbers. That the places in an accepted answer lie in
-//! the message is proved of the operations; with a stale archive, cutting a
-//! part might panic.
+//! the message is proved of the operations. All of this is of the archive that
+//! the declarations were made for: a program that may be linked with another
+//! compares [`version`]`()` with [`VERSION`].
 //!
-//! A call takes stack from what its thread has: up to 40 KiB to read a context
-//! or a body and to find or copy a value, 1 KiB for key sections and
-//! authentication records, 72 KiB for [`header_number`], [`header_position`]
-//! and [`write_listing`], 140 KiB to write a context or a body. These are
-//! figures measured on the archive, which a test holds it to; `include/bafirolen.h`
-//! has them as constants.
+//! A call takes up to [`STACK_READ`], [`STACK_KEYS`], [`STACK_LISTED`] or
+//! [`STACK_WRITE`] bytes of its thread's stack: 1 KiB to 140 KiB.
 //!
 //! The archive holds x86-64 code for Linux. The crate uses `core` alone, and
 //! needs Rust 1.87 or later.

@@ -36,8 +36,9 @@ macro_rules! refusals {
             )*
             /// A number that is not among the above, or one of them with a
             /// position where it has none. It comes from an archive of
-            /// another version than [`VERSION`](crate::VERSION), never from
-            /// the one that this wrapper was made for.
+            /// another version than [`VERSION`](crate::VERSION), or from a
+            /// caller's own [`from_number`](Refusal::from_number); never from
+            /// the archive that this wrapper was made for.
             Unlisted {
                 /// The number.
                 number: u32,

@@ -23,7 +23,7 @@ pub enum Remedy {
     /// again. As long as it has fewer, the answer is the same. If the message
     /// is whole already, it is rejected.
     ///
-    /// `position` is the end of the next part only, and each call reads from
+    /// `position` is the end of the next field only, and each call reads from
     /// the start again: fetch what is at hand, or twice as much, rather than
     /// just up to it. With that many bytes the answer may be another refusal,
     /// a further shortage among them. Set a limit: lengths in a message may
@@ -35,14 +35,15 @@ pub enum Remedy {
         /// How many bytes the message would have to have.
         position: u64,
     },
-    /// 22, 23, 28: the input is good, and the lent pair table, key table or
-    /// output is too short for the answer: the variant says which. Lend a
+    /// 22, 23, 28: no earlier test refused, and the lent pair table, key table
+    /// or output is too short for the answer: the variant says which. Lend a
     /// longer one and ask again; how much longer is not said.
     /// Tables of [`LARGEST_PAIR_TABLE`](crate::LARGEST_PAIR_TABLE) and
     /// [`LARGEST_KEY_TABLE`](crate::LARGEST_KEY_TABLE) numbers always suffice.
     LendMore,
     /// All others: the request is refused whatever more is fetched or lent. A
-    /// reader's caller takes the message for no header, a writer's caller
-    /// changes the fields, and one who looked for a key (29) does without.
+    /// reader's caller rejects the message (4, 15 and 21 depend on what was
+    /// asked for), a writer's caller corrects the fields, and one who looked for
+    /// a key (29) does without: the context is good and lacks it.
     Reject,
 }

@@ -11,19 +11,18 @@ pub enum Mode {
     Strict,
 }
 
-/// Which versions a body reader takes. Those of one version don't hold the
-/// frame length against the content type.
+/// Which versions a body reader takes. A reader of one version does not test
+/// whether frame length and content type agree (20).
 #[derive(Clone, Copy, Debug, Default, PartialEq, Eq, Hash)]
 pub enum Which {
     /// Versions 1 and 2. This reader alone tests the frame length (20).
     #[default]
     Either,
-    /// Version 1; version 2 is refused by 4. The frame length is not tested
-    /// against the content type: for that one too, ask for either version and
-    /// look at the number.
+    /// Version 1; version 2 is refused by 4. To have the test of the frame
+    /// length as well, ask for either version and then compare
+    /// `numbers.version`.
     V1Only,
-    /// Version 2; version 1 is refused by 4. As for version 1, the frame length
-    /// is not tested.
+    /// Version 2; version 1 is refused by 4.
     V2Only,
 }
 

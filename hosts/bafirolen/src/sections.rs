@@ -88,7 +88,7 @@ impl fmt::Debug for KeySection<'_, '_> {
 ///
 /// In the order of the tests:
 /// - 1 [`NotAddressable`](Refusal::NotAddressable);
-/// - 2 [`Shortage`](Refusal::Shortage), before each part that is read;
+/// - 2 [`Shortage`](Refusal::Shortage), where the next field is not all there;
 /// - 8 [`CountInEmptyContext`](Refusal::CountInEmptyContext);
 /// - 21 [`OldEmptyContext`](Refusal::OldEmptyContext), if strict;
 /// - 9 [`NoCountInContext`](Refusal::NoCountInContext);
@@ -134,7 +134,7 @@ pub fn read_aad_section<'m, 't>(
 ///
 /// In the order of the tests:
 /// - 1 [`NotAddressable`](Refusal::NotAddressable);
-/// - 2 [`Shortage`](Refusal::Shortage), before each part that is read;
+/// - 2 [`Shortage`](Refusal::Shortage), where the next field is not all there;
 /// - 15 [`TooManyKeys`](Refusal::TooManyKeys), before any key is read;
 /// - of each key 16 [`ProviderIdNotUtf8`](Refusal::ProviderIdNotUtf8);
 /// - 23 [`KeyTableTooShort`](Refusal::KeyTableTooShort).

@@ -11,7 +11,9 @@ pub(crate) fn length(record: BafirolenWritten) -> Result<usize, Refusal> {
 }
 
 /// Writes a context section of the table's pairs, whose places lie in `text`,
-/// to the front of `out`; answers its length.
+/// to the front of `out`; answers its length: 2 where there is no pair, else 4,
+/// 4 for each pair, and their parts. All numbers of the table are taken, as
+/// [`Draft`] says.
 ///
 /// # Errors
 ///
@@ -40,7 +42,8 @@ pub fn write_aad_section(text: &[u8], pairs: &[u32], out: &mut [u8]) -> Result<u
 }
 
 /// Writes a section of the table's keys, whose places lie in `text`, to the
-/// front of `out`; answers its length.
+/// front of `out`; answers its length: 2, 6 for each key, and their parts. All
+/// numbers of the table are taken, as [`Draft`] says.
 ///
 /// # Errors
 ///

@@ -1,5 +1,6 @@
 //! The functions' lists of refusals under 'Errors' are those that the
-//! comparisons hold each operation to, in document 01's order of tests. (`copy_value` refers to `find_value` for its list.)
+//! comparisons hold each operation to, in document 01's order of tests.
+//! (`copy_value` and `find_bytes` refer to `find_value` for theirs.)
 
 use bafirolen::Refusal;
 use report::{assert_said, LISTED};

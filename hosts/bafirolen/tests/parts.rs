@@ -97,10 +97,7 @@ fn of_version_2() {
     .concat();
     let (mut pairs, mut keys) = ([0; 12], [0; 12]);
     let body = read_header_body(&message, 0, Request::default(), &mut pairs, &mut keys).unwrap();
-    assert_eq!(
-        body.numbers,
-        Numbers::version_2(0x0578, CONTENT_TYPE_NON_FRAMED, 0)
-    );
+    assert_eq!(body.numbers, Numbers::version_2(0x0578, NON_FRAMED, 0));
     assert_eq!((body.message_id(), body.suite_data()), (&id[..], &data[..]));
     assert_eq!(body.context_start(), 35);
     assert_eq!(body.suite_data_place(), Place { start: 86, len: 32 });

@@ -3,7 +3,7 @@
 
 use bafirolen::{
     write_aad_section, write_encrypted_data_keys_section, write_header_body, Draft, Numbers,
-    Refusal, CONTENT_TYPE_FRAMED,
+    Refusal, FRAMED,
 };
 
 /// Places of the lengths given, one after the other.
@@ -25,12 +25,9 @@ fn takes(length: usize, write: impl Fn(&mut [u8]) -> Result<usize, Refusal>) {
 fn body(version: usize, pairs: &[u32], keys: &[u32], text: &[u8]) -> usize {
     let (id, data) = ([7; 32], [8; 32]);
     let draft = if version == 1 {
-        Draft::new(
-            Numbers::version_1(0x0178, CONTENT_TYPE_FRAMED, 9),
-            &id[..16],
-        )
+        Draft::new(Numbers::version_1(0x0178, FRAMED, 9), &id[..16])
     } else {
-        let numbers = Numbers::version_2(0x0578, CONTENT_TYPE_FRAMED, 9);
+        let numbers = Numbers::version_2(0x0578, FRAMED, 9);
         Draft::new(numbers, &id).with_suite_data(&data)
     };
     let (pair_table, key_table) = (table(pairs), table(keys));

@@ -1,4 +1,4 @@
-//! The rows of listings that are written by hand, by the program. What a host
+//! The rows of listings by the program that are written by hand, by the program. What a host
 //! is told is the separate implementation's here; ours is compared with it
 //! beside the other operations.
 

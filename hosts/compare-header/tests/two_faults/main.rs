@@ -5,7 +5,8 @@
 //! is the one listed first, with its position; mended, it is the other.
 //!
 //! A new refusal is a row at its place in a table, and a number in the
-//! operation's list of `report`, which every table is held against.
+//! operation's list of `report`, which the tables are held against, but for
+//! copying and what a host is told, which are made from others.
 
 mod apart;
 mod bodies;

@@ -1,4 +1,5 @@
-//! Writing: both sections, a body of each version, the authentication record.
+//! Writing: both sections, a body of each version, the authentication record;
+//! and the listing.
 
 use super::every_pair::{record, write, Fault, Listed, Names};
 use compare_header::numbers::{answered, numbers};

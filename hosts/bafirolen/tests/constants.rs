@@ -1,0 +1,55 @@
+//! The constants are those of the C header.
+
+use bafirolen::*;
+
+const HEADERS: [&str; 2] = [
+    include_str!("../../../include/bafirolen.h"),
+    include_str!("../../../include/bafirolen_records.h"),
+];
+
+/// The value that a header defines the name by: a number, or a product of a
+/// name and a number.
+fn defined(name: &str) -> usize {
+    let head = format!("#define BAFIROLEN_{name} ");
+    let mut lines = HEADERS.iter().flat_map(|header| header.lines());
+    let line = lines.find_map(|line| line.strip_prefix(&head));
+    let value = line.unwrap_or_else(|| panic!("no {name}"));
+    let value = value.split("/*").next().unwrap_or_default().trim();
+    let product = value
+        .trim_matches(['(', ')'])
+        .strip_prefix("BAFIROLEN_")
+        .and_then(|rest| rest.split_once(" * "));
+    match product {
+        Some((factor, number)) => defined(factor) * number.parse::<usize>().expect("a number"),
+        None => match value.strip_prefix("0x") {
+            Some(digits) => usize::from_str_radix(digits, 16).expect("a number"),
+            None => value.parse().expect("a number"),
+        },
+    }
+}
+
+#[test]
+fn are_those_of_c() {
+    let constants = [
+        ("VERSION", VERSION as usize),
+        ("STACK_READ", STACK_READ),
+        ("STACK_KEYS", STACK_KEYS),
+        ("STACK_LISTED", STACK_LISTED),
+        ("STACK_WRITE", STACK_WRITE),
+        ("NUMBERS_PER_PAIR", NUMBERS_PER_PAIR),
+        ("NUMBERS_PER_KEY", NUMBERS_PER_KEY),
+        ("LARGEST_PAIR_TABLE", LARGEST_PAIR_TABLE),
+        ("LARGEST_KEY_TABLE", LARGEST_KEY_TABLE),
+        ("V1_MESSAGE_TYPE", V1_MESSAGE_TYPE as usize),
+        ("NON_FRAMED", NON_FRAMED as usize),
+        ("FRAMED", FRAMED as usize),
+        ("IV_LEN", IV_LEN),
+        ("TAG_LEN", TAG_LEN),
+        ("V1_MESSAGE_ID_LEN", V1_MESSAGE_ID_LEN),
+        ("V2_MESSAGE_ID_LEN", V2_MESSAGE_ID_LEN),
+        ("V2_SUITE_DATA_LEN", V2_SUITE_DATA_LEN),
+    ];
+    for (name, value) in constants {
+        assert_eq!(value, defined(name), "{name}");
+    }
+}
