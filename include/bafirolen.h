@@ -182,9 +182,9 @@ BafirolenWritten bafirolen_write_header_auth_tag(uint32_t suite, const uint8_t *
  * 26 and 27 are tested of the pairs before 10, and of the keys before 16.
  */
 BafirolenWritten bafirolen_write_header_body(BafirolenNumbers numbers, const uint8_t *message_id, size_t message_id_len,
-                                             const uint8_t *suite_data, size_t suite_data_len, const uint8_t *text, size_t text_len,
-                                             const uint32_t *pairs, size_t pairs_len, const uint32_t *keys, size_t keys_len,
-                                             uint8_t *out, size_t out_len);
+                                             const uint8_t *suite_data, size_t suite_data_len, const uint8_t *text,
+                                             size_t text_len, const uint32_t *pairs, size_t pairs_len, const uint32_t *keys,
+                                             size_t keys_len, uint8_t *out, size_t out_len);
 
 /*
  * LISTING. Writes, as a writer does, the header at the first byte of the message as text; the listing program of the repository

@@ -119,6 +119,15 @@ static void write_version_2(void)
     table_is("version 2", keys, fresh_numbers, 0);
 }
 
+static void numbers_made(void)
+{
+    static const BafirolenNumbers one = {1, 0x80, 0x0178, 2, 12, 4096}, two = {2, 0, 0x0578, 1, 0, 7};
+    const BafirolenNumbers made_one = bafirolen_v1_numbers(0x0178, BAFIROLEN_FRAMED, 4096);
+    const BafirolenNumbers made_two = bafirolen_v2_numbers(0x0578, BAFIROLEN_NON_FRAMED, 7);
+    same_bytes("numbers of version 1", &made_one, &one, sizeof one);
+    same_bytes("numbers of version 2", &made_two, &two, sizeof two);
+}
+
 static const uint8_t iv[12] = {1, 2, 3, 4, 5, 6, 7, 8, 9, 10, 11, 12};
 static const uint8_t tag[16] = {201, 202, 203, 204, 205, 206, 207, 208, 209, 210, 211, 212, 213, 214, 215, 216};
 
@@ -207,6 +216,7 @@ int main(void)
     write_bodies();
     write_version_2();
     refuse_version_2();
+    numbers_made();
     write_records();
     read_records();
     listings();

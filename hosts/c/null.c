@@ -213,8 +213,8 @@ static void writers(void)
                BAFIROLEN_REFUSED_OUTPUT_TOO_SHORT, 0);
     written_is("no IV", bafirolen_write_header_auth_tag(0x0178, NULL, 0, NULL, 0, NULL, 0), BAFIROLEN_REFUSED_IV_LENGTH, 0);
     written_is("no tag", bafirolen_write_header_auth_tag(0x0178, H, 12, NULL, 0, NULL, 0), BAFIROLEN_REFUSED_TAG_LENGTH, 0);
-    written_is("no room for a record", bafirolen_write_header_auth_tag(0x0178, H, 12, H, 16, NULL, 0), BAFIROLEN_REFUSED_OUTPUT_TOO_SHORT,
-               0);
+    written_is("no room for a record", bafirolen_write_header_auth_tag(0x0178, H, 12, H, 16, NULL, 0),
+               BAFIROLEN_REFUSED_OUTPUT_TOO_SHORT, 0);
     written_is("no room for a listing", bafirolen_write_listing(NULL, 0, NULL, 0), BAFIROLEN_REFUSED_OUTPUT_TOO_SHORT, 0);
     fresh();
     written_is("no pairs", bafirolen_write_aad_section(NULL, 0, NULL, 0, out, BYTES), 0, 2);
