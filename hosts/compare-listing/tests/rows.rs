@@ -1,4 +1,4 @@
-//! The rows of listings by the program that are written by hand, by the program. What a host
+//! The rows of listings that are written by hand, by the program. What a host
 //! is told is the separate implementation's here; ours is compared with it
 //! beside the other operations.
 
@@ -13,5 +13,5 @@ fn hand_written_rows() {
         + listings::the_listings_tables_have_limits(program)
         + listings::the_programs_input_has_a_limit(program, host_answer);
     assert_eq!(rows, 1 + 5 + 4 + 4);
-    compared(rows, "rows of listings");
+    compared(rows, "rows of listings by the program");
 }
