@@ -70,7 +70,9 @@ uint32_t bafirolen_version(void);
 
 /*
  * STACK. How many bytes of stack a call may take, measured on the archive and rounded up; a test runs every function on a thread
- * that has just so many left. Nothing proves them. bafirolen_version takes less than BAFIROLEN_STACK_KEYS.
+ * that has just so many left. Nothing proves them. Where the program binds memcpy and memset at their first call, that call
+ * also takes what the dynamic linker takes, for which these figures leave some room. bafirolen_version takes less than
+ * BAFIROLEN_STACK_KEYS.
  */
 #define BAFIROLEN_STACK_READ 40960   /* read a context section or a body; find and copy a value */
 #define BAFIROLEN_STACK_KEYS 1024    /* read and write a key section or an authentication record */

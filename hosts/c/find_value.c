@@ -4,7 +4,6 @@
  *     gcc -std=c99 -O2 -Wall -Wextra -Iinclude hosts/c/find_value.c target/staticlib/libbafirolen_c.a -o target/find_value
  *     target/find_value FILE KEY
  */
-#include "example.h"
 #include "message.h"
 
 static const char program[] = "find_value";
@@ -33,20 +32,11 @@ static int find(const uint8_t *message, size_t length, const char *key)
 
 int main(int argc, char **argv)
 {
-    size_t length;
-    uint8_t *message;
-    int status;
     if (other_version(program)) {
         return 1;
     }
     if (argc != 3) {
         return usage("find_value FILE KEY");
     }
-    message = message_of(argv[1], &length);
-    if (message == NULL) {
-        return file_failed(program, argv[1]);
-    }
-    status = find(message, length, argv[2]);
-    free(message);
-    return status;
+    return with_message(program, argv[1], find, argv[2]);
 }

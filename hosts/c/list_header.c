@@ -5,17 +5,17 @@
  *     gcc -std=c99 -O2 -Wall -Wextra -Iinclude hosts/c/list_header.c target/staticlib/libbafirolen_c.a -o target/list_header
  *     target/list_header FILE
  */
-#include "example.h"
 #include "message.h"
 
 static const char program[] = "list_header";
 
 /* So long an output is never too short. */
-static int list(const uint8_t *message, size_t length)
+static int list(const uint8_t *message, size_t length, const char *key)
 {
     const size_t room = 2 * length + 28;
     uint8_t *out = malloc(room);
     BafirolenWritten w;
+    (void)key;
     if (out == NULL) {
         return file_failed(program, "memory");
     }
@@ -27,20 +27,11 @@ static int list(const uint8_t *message, size_t length)
 
 int main(int argc, char **argv)
 {
-    size_t length;
-    uint8_t *message;
-    int status;
     if (other_version(program)) {
         return 1;
     }
     if (argc != 2) {
         return usage("list_header FILE");
     }
-    message = message_of(argv[1], &length);
-    if (message == NULL) {
-        return file_failed(program, argv[1]);
-    }
-    status = list(message, length);
-    free(message);
-    return status;
+    return with_message(program, argv[1], list, NULL);
 }

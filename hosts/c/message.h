@@ -2,6 +2,8 @@
 #ifndef MESSAGE_H
 #define MESSAGE_H
 
+#include "example.h"
+
 #include <errno.h>
 #include <stdint.h>
 #include <stdio.h>
@@ -32,6 +34,21 @@ static inline uint8_t *message_of(const char *path, size_t *length)
     fclose(f);
     errno = why;
     return bytes;
+}
+
+/* Does `use` with the bytes of a file and the key, if one is wanted: the status for main to return. */
+static inline int with_message(const char *program, const char *path, int (*use)(const uint8_t *, size_t, const char *),
+                               const char *key)
+{
+    size_t length;
+    int status;
+    uint8_t *message = message_of(path, &length);
+    if (message == NULL) {
+        return file_failed(program, path);
+    }
+    status = use(message, length, key);
+    free(message);
+    return status;
 }
 
 #endif

@@ -4,7 +4,6 @@
  *     gcc -std=c99 -O2 -Wall -Wextra -Iinclude hosts/c/print_context.c target/staticlib/libbafirolen_c.a -o target/print_context
  *     target/print_context FILE
  */
-#include "example.h"
 #include "message.h"
 
 static const char program[] = "print_context";
@@ -18,12 +17,13 @@ static void print_part(const uint8_t *message, const uint32_t *place, const char
     fputs(behind, stdout);
 }
 
-static int print(const uint8_t *message, size_t length)
+static int print(const uint8_t *message, size_t length, const char *key)
 {
     size_t i;
     const BafirolenBody b =
         bafirolen_read_header_body(message, length, 0, BAFIROLEN_EITHER, BAFIROLEN_TOLERANT, BAFIROLEN_NO_MAX, 0, pairs,
                                    BAFIROLEN_LARGEST_PAIR_TABLE, keys, BAFIROLEN_LARGEST_KEY_TABLE);
+    (void)key;
     if (b.number != BAFIROLEN_ACCEPTED) {
         return refused(program, b.number, b.position);
     }
@@ -36,20 +36,11 @@ static int print(const uint8_t *message, size_t length)
 
 int main(int argc, char **argv)
 {
-    size_t length;
-    uint8_t *message;
-    int status;
     if (other_version(program)) {
         return 1;
     }
     if (argc != 2) {
         return usage("print_context FILE");
     }
-    message = message_of(argv[1], &length);
-    if (message == NULL) {
-        return file_failed(program, argv[1]);
-    }
-    status = print(message, length);
-    free(message);
-    return status;
+    return with_message(program, argv[1], print, NULL);
 }

@@ -3,10 +3,12 @@
 //!
 //!     cargo run --release --example file_header -- FILE
 
+mod common;
+
 use bafirolen::{read_header_body, write_header_body, Body, Draft, Key, Numbers, Pair, Request};
+use common::{ended, print, usage};
 use std::error::Error;
 use std::ffi::OsString;
-use std::io::{self, Write};
 use std::path::Path;
 use std::process::ExitCode;
 use std::{env, fs};
@@ -62,24 +64,13 @@ fn run(path: &Path) -> Result<(), Box<dyn Error>> {
         return Err("what was read back is not what was written".into());
     }
     fs::write(path, header).map_err(|error| format!("{}: {error}", path.display()))?;
-    let mut out = io::stdout().lock();
-    writeln!(out, "filed {length} bytes")?;
-    out.flush()?;
-    Ok(())
+    Ok(print(format!("filed {length} bytes\n").as_bytes())?)
 }
 
 fn main() -> ExitCode {
     let arguments: Vec<OsString> = env::args_os().skip(1).collect();
-    // What can't be said on standard error is still said by the status.
     let [path] = &arguments[..] else {
-        let _ = writeln!(io::stderr(), "usage: file_header FILE");
-        return ExitCode::from(2);
+        return usage("file_header FILE");
     };
-    match run(Path::new(path)) {
-        Ok(()) => ExitCode::SUCCESS,
-        Err(error) => {
-            let _ = writeln!(io::stderr(), "file_header: {error}");
-            ExitCode::FAILURE
-        }
-    }
+    ended("file_header", run(Path::new(path)))
 }

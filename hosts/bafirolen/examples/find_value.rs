@@ -3,40 +3,29 @@
 //!
 //!     cargo run --release --example find_value -- FILE KEY
 
+mod common;
+
 use bafirolen::{find_bytes, read_header_body, Request, LARGEST_KEY_TABLE, LARGEST_PAIR_TABLE};
+use common::{ended, message_of, print, usage};
+use std::env;
 use std::error::Error;
 use std::ffi::{OsStr, OsString};
-use std::io::{self, Write};
 use std::os::unix::ffi::OsStrExt;
 use std::path::Path;
 use std::process::ExitCode;
-use std::{env, fs};
 
 fn run(path: &Path, key: &OsStr) -> Result<(), Box<dyn Error>> {
-    let message = fs::read(path).map_err(|error| format!("{}: {error}", path.display()))?;
+    let message = message_of(path)?;
     let (mut pairs, mut keys) = (vec![0; LARGEST_PAIR_TABLE], vec![0; LARGEST_KEY_TABLE]);
     let body = read_header_body(&message, 0, Request::default(), &mut pairs, &mut keys)?;
     let value = find_bytes(&message, body.context_start(), key.as_bytes())?;
-
-    let mut out = io::stdout().lock();
-    out.write_all(value)?;
-    writeln!(out)?;
-    out.flush()?;
-    Ok(())
+    Ok(print(&[value, b"\n"].concat())?)
 }
 
 fn main() -> ExitCode {
     let arguments: Vec<OsString> = env::args_os().skip(1).collect();
-    // What can't be said on standard error is still said by the status.
     let [path, key] = &arguments[..] else {
-        let _ = writeln!(io::stderr(), "usage: find_value FILE KEY");
-        return ExitCode::from(2);
+        return usage("find_value FILE KEY");
     };
-    match run(Path::new(path), key) {
-        Ok(()) => ExitCode::SUCCESS,
-        Err(error) => {
-            let _ = writeln!(io::stderr(), "find_value: {error}");
-            ExitCode::FAILURE
-        }
-    }
+    ended("find_value", run(Path::new(path), key))
 }

@@ -5,38 +5,28 @@
 //!
 //!     cargo run --release --example list_header -- FILE
 
+mod common;
+
 use bafirolen::write_listing;
+use common::{ended, message_of, print, usage};
+use std::env;
 use std::error::Error;
 use std::ffi::OsString;
-use std::io::{self, Write};
 use std::path::Path;
 use std::process::ExitCode;
-use std::{env, fs};
 
 fn run(path: &Path) -> Result<(), Box<dyn Error>> {
-    let message = fs::read(path).map_err(|error| format!("{}: {error}", path.display()))?;
+    let message = message_of(path)?;
     // So long an output is never too short.
     let mut listing = vec![0; 2 * message.len() + 28];
     let length = write_listing(&message, &mut listing)?;
-
-    let mut out = io::stdout().lock();
-    out.write_all(&listing[..length])?;
-    out.flush()?;
-    Ok(())
+    Ok(print(&listing[..length])?)
 }
 
 fn main() -> ExitCode {
     let arguments: Vec<OsString> = env::args_os().skip(1).collect();
-    // What can't be said on standard error is still said by the status.
     let [path] = &arguments[..] else {
-        let _ = writeln!(io::stderr(), "usage: list_header FILE");
-        return ExitCode::from(2);
+        return usage("list_header FILE");
     };
-    match run(Path::new(path)) {
-        Ok(()) => ExitCode::SUCCESS,
-        Err(error) => {
-            let _ = writeln!(io::stderr(), "list_header: {error}");
-            ExitCode::FAILURE
-        }
-    }
+    ended("list_header", run(Path::new(path)))
 }

@@ -2,40 +2,33 @@
 //!
 //!     cargo run --release --example print_context -- FILE
 
+mod common;
+
 use bafirolen::{read_header_body, Request, LARGEST_KEY_TABLE, LARGEST_PAIR_TABLE};
+use common::{ended, message_of, print, usage};
+use std::env;
 use std::error::Error;
 use std::ffi::OsString;
-use std::io::{self, Write};
 use std::path::Path;
 use std::process::ExitCode;
 use std::str::from_utf8;
-use std::{env, fs};
 
 fn run(path: &Path) -> Result<(), Box<dyn Error>> {
-    let message = fs::read(path).map_err(|error| format!("{}: {error}", path.display()))?;
+    let message = message_of(path)?;
     let (mut pairs, mut keys) = (vec![0; LARGEST_PAIR_TABLE], vec![0; LARGEST_KEY_TABLE]);
     let body = read_header_body(&message, 0, Request::default(), &mut pairs, &mut keys)?;
 
-    let mut out = io::stdout().lock();
+    let mut lines = String::new();
     for pair in body.pairs() {
-        writeln!(out, "{} = {}", from_utf8(pair.key)?, from_utf8(pair.value)?)?;
+        lines += &format!("{} = {}\n", from_utf8(pair.key)?, from_utf8(pair.value)?);
     }
-    out.flush()?;
-    Ok(())
+    Ok(print(lines.as_bytes())?)
 }
 
 fn main() -> ExitCode {
     let arguments: Vec<OsString> = env::args_os().skip(1).collect();
-    // What can't be said on standard error is still said by the status.
     let [path] = &arguments[..] else {
-        let _ = writeln!(io::stderr(), "usage: print_context FILE");
-        return ExitCode::from(2);
+        return usage("print_context FILE");
     };
-    match run(Path::new(path)) {
-        Ok(()) => ExitCode::SUCCESS,
-        Err(error) => {
-            let _ = writeln!(io::stderr(), "print_context: {error}");
-            ExitCode::FAILURE
-        }
-    }
+    ended("print_context", run(Path::new(path)))
 }

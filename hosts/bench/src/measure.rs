@@ -22,7 +22,7 @@ const ROUNDS: usize = 201;
 const ROUND: Duration = Duration::from_micros(100);
 /// Calls that take long, as those of thousands of pairs, get fewer rounds:
 /// an odd number again, once this time is over. Of one call each, they still
-/// take all ten requests.
+/// take every request.
 const ENOUGH: Duration = Duration::from_secs(2);
 const FEWEST: usize = 11;
 

@@ -10,10 +10,11 @@ pub use listed::{assert_said, listed, LISTED};
 use std::io::Write;
 
 /// A line to the stream itself, since cargo swallows what a passing test
-/// prints.
+/// prints. It begins with a line end, because another test may have written
+/// half of a line.
 pub fn say(line: &str) {
     std::io::stdout()
-        .write_all(format!("{line}\n").as_bytes())
+        .write_all(format!("\n{line}\n").as_bytes())
         .expect("a line can be written");
 }
 

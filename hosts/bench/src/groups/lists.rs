@@ -5,11 +5,13 @@ use generator::random::Random;
 use generator::Pair;
 
 /// The requests of a row: a message measured again and again would be known
-/// to the branch predictor, as none is in use.
-pub const ROTATION: usize = 10;
+/// to the branch predictor, as none is in use. An odd number, so that where a
+/// round is one call, each request goes first and second by turns, and lies
+/// under each depth of the stack.
+pub const ROTATION: usize = 11;
 
-/// More of them the smaller they are, since a predictor knows ten short ones
-/// as well; never fewer than ten.
+/// More of them the smaller they are, since a predictor knows a few short ones
+/// as well; never fewer.
 pub fn rotation(count: usize) -> usize {
     (2_000 / count.max(1)).clamp(ROTATION, 128)
 }
