@@ -84,6 +84,7 @@ uint32_t bafirolen_version(void);
  * where it is accepted, else 0 but for BAFIROLEN_REFUSED_SHORTAGE. It is read in either version, tolerantly, with no maximum and
  * with tables of 4,096 numbers, so at most 1,024 pairs and 682 keys.
  * Refuses: 1 2 3 5 6 7 8 9 10 11 12 13 14 16 17 18 19 20 22 23.
+ * Stack: BAFIROLEN_STACK_LISTED.
  */
 uint32_t bafirolen_header_number(const uint8_t *message, size_t message_len, uint64_t start);
 uint64_t bafirolen_header_position(const uint8_t *message, size_t message_len, uint64_t start);
@@ -105,6 +106,7 @@ uint64_t bafirolen_header_position(const uint8_t *message, size_t message_len, u
  * Refuses: 1 2 3 4 5 6 7 8 21 9 10 11 12 13 14 15 16 17 18 19 20 22 23.
  * 4 only where one version is asked for; 5, 18 and 19 only of a message of version 1; 20 only where either version is asked for;
  * 21 only where strict.
+ * Stack: BAFIROLEN_STACK_READ.
  */
 BafirolenBody bafirolen_read_header_body(const uint8_t *message, size_t message_len, uint64_t start, uint32_t which, uint32_t mode,
                                          uint32_t has_max, uint64_t max, uint32_t *pairs, size_t pairs_len, uint32_t *keys,
@@ -114,6 +116,7 @@ BafirolenBody bafirolen_read_header_body(const uint8_t *message, size_t message_
  * Reads the context section at `start`; mode and table as `mode` and `pairs` of bafirolen_read_header_body.
  * Refuses: 1 2 8 21 9 10 11 12 13 14 22.
  * 21 only where strict.
+ * Stack: BAFIROLEN_STACK_READ.
  */
 BafirolenSection bafirolen_read_aad_section(const uint8_t *message, size_t message_len, uint64_t start, uint32_t mode,
                                             uint32_t *table, size_t table_len);
@@ -121,6 +124,7 @@ BafirolenSection bafirolen_read_aad_section(const uint8_t *message, size_t messa
 /*
  * Reads the section of encrypted data keys at `start`; has_max, max and table as for bafirolen_read_header_body (`keys`).
  * Refuses: 1 2 15 16 23.
+ * Stack: BAFIROLEN_STACK_KEYS.
  */
 BafirolenSection bafirolen_read_encrypted_data_keys_section(const uint8_t *message, size_t message_len, uint64_t start,
                                                             uint32_t has_max, uint64_t max, uint32_t *table, size_t table_len);
@@ -129,6 +133,7 @@ BafirolenSection bafirolen_read_encrypted_data_keys_section(const uint8_t *messa
  * Finds the value of a key of the context in the context section at `start`, read tolerantly. For a body that was accepted
  * bafirolen_context_start gives that start. The key may be any bytes: one that is not UTF-8 is not found. Changes nothing.
  * Refuses: 1 2 8 9 10 11 12 13 14 29.
+ * Stack: BAFIROLEN_STACK_READ.
  */
 BafirolenPlace bafirolen_find_value(const uint8_t *message, size_t message_len, uint64_t start, const uint8_t *key,
                                     size_t key_len);
@@ -136,6 +141,7 @@ BafirolenPlace bafirolen_find_value(const uint8_t *message, size_t message_len, 
 /*
  * Copies the value that bafirolen_find_value finds to `out`, from its first byte on; the bytes after it are left as they were.
  * Refuses: 1 2 8 9 10 11 12 13 14 29 28.
+ * Stack: BAFIROLEN_STACK_READ.
  */
 BafirolenWritten bafirolen_copy_value(const uint8_t *message, size_t message_len, uint64_t start, const uint8_t *key,
                                       size_t key_len, uint8_t *out, size_t out_len);
@@ -144,6 +150,7 @@ BafirolenWritten bafirolen_copy_value(const uint8_t *message, size_t message_len
  * Reads the authentication record of a suite at `start`: the IV and the tag that stand right after a header body (its tail and
  * numbers.suite). Neither is verified. Changes nothing.
  * Refuses: 1 6 2.
+ * Stack: BAFIROLEN_STACK_KEYS.
  */
 BafirolenAuth bafirolen_read_header_auth_tag(const uint8_t *message, size_t message_len, uint64_t start, uint32_t suite);
 
@@ -158,6 +165,7 @@ BafirolenAuth bafirolen_read_header_auth_tag(const uint8_t *message, size_t mess
 /*
  * Writes the context section of the pairs in the table: 00 00 where there is none, else 4 bytes, 4 for each pair and its parts.
  * Refuses: 26 27 10 11 12 13 28.
+ * Stack: BAFIROLEN_STACK_WRITE.
  */
 BafirolenWritten bafirolen_write_aad_section(const uint8_t *text, size_t text_len, const uint32_t *pairs, size_t pairs_len,
                                              uint8_t *out, size_t out_len);
@@ -165,6 +173,7 @@ BafirolenWritten bafirolen_write_aad_section(const uint8_t *text, size_t text_le
 /*
  * Writes the section of the encrypted data keys in the table: 2 bytes, 6 for each key and its parts.
  * Refuses: 26 27 16 28.
+ * Stack: BAFIROLEN_STACK_KEYS.
  */
 BafirolenWritten bafirolen_write_encrypted_data_keys_section(const uint8_t *text, size_t text_len, const uint32_t *keys,
                                                              size_t keys_len, uint8_t *out, size_t out_len);
@@ -173,6 +182,7 @@ BafirolenWritten bafirolen_write_encrypted_data_keys_section(const uint8_t *text
  * Writes the authentication record of a suite: IV and tag, 28 bytes, in version 1; the tag, 16 bytes, in version 2. iv_len is 12
  * in both; version 2 ignores the IV's bytes.
  * Refuses: 6 19 30 28.
+ * Stack: BAFIROLEN_STACK_KEYS.
  */
 BafirolenWritten bafirolen_write_header_auth_tag(uint32_t suite, const uint8_t *iv, size_t iv_len, const uint8_t *tag,
                                                  size_t tag_len, uint8_t *out, size_t out_len);
@@ -182,6 +192,7 @@ BafirolenWritten bafirolen_write_header_auth_tag(uint32_t suite, const uint8_t *
  * takes 34 bytes in version 1 and 76 in version 2; where it has a pair, 2 more; 4 for each pair, 6 for each key, and their parts.
  * Refuses: 3 5 6 7 24 26 27 10 11 12 13 16 17 19 25 20 28.
  * 26 and 27 are tested of the pairs before 10, and of the keys before 16.
+ * Stack: BAFIROLEN_STACK_WRITE.
  */
 BafirolenWritten bafirolen_write_header_body(BafirolenNumbers numbers, const uint8_t *message_id, size_t message_id_len,
                                              const uint8_t *suite_data, size_t suite_data_len, const uint8_t *text,
@@ -197,6 +208,7 @@ BafirolenWritten bafirolen_write_header_body(BafirolenNumbers numbers, const uin
  * tabs; all other numbers are decimal. The message is read as by the two calls; one that is refused has the one line `refused`,
  * number and position, and is no refusal here. An output of 2 * message_len + 28 bytes is never too short.
  * Refuses: 28.
+ * Stack: BAFIROLEN_STACK_LISTED.
  */
 BafirolenWritten bafirolen_write_listing(const uint8_t *message, size_t message_len, uint8_t *out, size_t out_len);
 
