@@ -38,6 +38,7 @@
 //! assert_eq!((body.numbers.suite, body.numbers.frame_length), (0x0178, 4_096));
 //! assert_eq!(body.message_id(), &message[4..20]);
 //! assert_eq!(body.tail, 58);
+//! assert_eq!((body.pairs().len(), body.keys().len()), (1, 1));
 //! for pair in body.pairs() {
 //!     assert_eq!((pair.key, pair.value), (&b"lang"[..], &b"cy"[..]));
 //! }
