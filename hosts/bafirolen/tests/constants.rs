@@ -28,6 +28,15 @@ fn defined(name: &str) -> usize {
     }
 }
 
+/// How many names the headers give a value to; an include guard has none.
+fn defined_names() -> usize {
+    let lines = HEADERS.iter().flat_map(|header| header.lines());
+    lines
+        .filter_map(|line| line.strip_prefix("#define BAFIROLEN_"))
+        .filter(|rest| rest.split_once(' ').is_some())
+        .count()
+}
+
 #[test]
 fn are_those_of_c() {
     let constants = [
@@ -52,4 +61,7 @@ fn are_those_of_c() {
     for (name, value) in constants {
         assert_eq!(value, defined(name), "{name}");
     }
+    let names: std::collections::BTreeSet<&str> = constants.iter().map(|row| row.0).collect();
+    assert_eq!(names.len(), constants.len(), "a name in two rows");
+    assert_eq!(names.len(), defined_names(), "names that C has");
 }
