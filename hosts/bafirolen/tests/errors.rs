@@ -1,6 +1,7 @@
 //! The functions' lists of refusals under 'Errors' are those that the
 //! comparisons hold each operation to, in document 01's order of tests.
-//! (`copy_value` and `find_bytes` refer to `find_value` for theirs.)
+//! (`copy_value` and `find_bytes` refer to `find_value` for theirs, and the
+//! first adds 28.)
 
 use bafirolen::Refusal;
 use report::{assert_said, LISTED};
@@ -70,5 +71,17 @@ fn are_those_of_the_operations() {
             .map(|(_, list)| *list)
             .collect();
         assert_said(function, &numbers(&errors(function)), &lists);
+    }
+}
+
+/// What stands before the first number is a reference to `find_value`.
+#[test]
+fn two_refer_to_find_value() {
+    const THOSE: &str = "Those of [`find_value`]";
+    for (function, more) in [("find_bytes", &[][..]), ("copy_value", &[28][..])] {
+        let list = errors(function);
+        let rest = list.trim_start().strip_prefix(THOSE);
+        let rest = rest.unwrap_or_else(|| panic!("{function}: {list}"));
+        assert_eq!(numbers(rest), more, "{function}");
     }
 }
