@@ -42,20 +42,19 @@ fn entries_read() {
     compared(count, "rows of entries read");
 }
 
-/// The leaf says only whether it wrote: 27 where the part is too long for any
-/// output, otherwise 28.
-fn write(out: &mut [u8], at: u64, part: &[u8]) -> Written {
-    let length = part.len() as u64;
-    if leaves::put_entry(part, (0, length), out, at) {
-        return Ok(at + 2 + length);
-    }
-    Err((if length > 65_535 { 27 } else { 28 }, 0))
+/// The leaf says only whether it wrote.
+fn write(out: &mut [u8], at: u64, part: &[u8]) -> bool {
+    leaves::put_entry(part, (0, part.len() as u64), out, at)
+}
+
+fn said(answer: Written) -> bool {
+    answer.is_ok()
 }
 
 #[test]
 fn entries_written() {
-    let count = rows::writes_keep_what_they_do_not_fill(rows::entry, write)
-        + rows::the_longest_entry(write);
+    let count = rows::writes_keep_what_they_do_not_fill(rows::entry, write, said)
+        + rows::the_longest_entry(write, said);
     assert_eq!(count, 36 + 2);
     compared(count, "rows of entries written");
 }

@@ -1,6 +1,7 @@
 //! Numbers, bytes and entries, read and written.
 
 use super::{Place, Refused, Written};
+use std::fmt::Debug;
 
 /// Where a leaf is asked to read ten bytes.
 const STARTS: [u64; 11] = [
@@ -102,11 +103,13 @@ const PLACES: [u64; 9] = [0, 1, 5, 7, 8, 9, 1 << 32, u64::MAX - 1, u64::MAX];
 const PARTS: [&[u8]; 4] = [&[], &[1], &[1, 2, 3], &[0xAA; 9]];
 
 /// A leaf that writes a part into eight bytes: those of `image` are there
-/// afterwards, or 28 and none.
-pub fn writes_keep_what_they_do_not_fill(
+/// afterwards, or 28 and none. `said` gives what the leaf says of an answer.
+pub fn writes_keep_what_they_do_not_fill<A: PartialEq + Debug>(
     image: impl Fn(&[u8]) -> Vec<u8>,
-    write: impl Fn(&mut [u8], u64, &[u8]) -> Written,
+    write: impl Fn(&mut [u8], u64, &[u8]) -> A,
+    said: impl Fn(Written) -> A,
 ) -> u64 {
+    let mut compared = 0;
     for at in PLACES {
         for part in PARTS {
             let image = image(part);
@@ -116,14 +119,15 @@ pub fn writes_keep_what_they_do_not_fill(
             let mut wanted = [0xEE; 8];
             if end <= 8 {
                 wanted[at as usize..end as usize].copy_from_slice(&image);
-                assert_eq!(answer, Ok(end as u64));
+                assert_eq!(answer, said(Ok(end as u64)));
             } else {
-                assert_eq!(answer, Err((28, 0)));
+                assert_eq!(answer, said(Err((28, 0))));
             }
             assert_eq!(out, wanted);
+            compared += 1;
         }
     }
-    (PLACES.len() * PARTS.len()) as u64
+    compared
 }
 
 /// An entry: its length, then the part.
@@ -133,11 +137,22 @@ pub fn entry(part: &[u8]) -> Vec<u8> {
     entry
 }
 
-/// A part of 65,535 bytes is written, and one more is 27.
-pub fn the_longest_entry(write: impl Fn(&mut [u8], u64, &[u8]) -> Written) -> u64 {
+/// A part of 65,535 bytes is written, and one more is 27 and changes nothing.
+pub fn the_longest_entry<A: PartialEq + Debug>(
+    write: impl Fn(&mut [u8], u64, &[u8]) -> A,
+    said: impl Fn(Written) -> A,
+) -> u64 {
+    let longest = vec![0; 65_535];
+    let rows = [
+        (longest.clone(), Ok(65_537)),
+        (vec![1; 65_536], Err((27, 0))),
+    ];
+    let mut wanted = vec![0xEE; 70_000];
+    wanted[..65_537].copy_from_slice(&entry(&longest));
     let mut out = vec![0xEE; 70_000];
-    assert_eq!(write(&mut out, 0, &[0; 65_535]), Ok(65_537));
-    assert_eq!(write(&mut out, 0, &[1; 65_536]), Err((27, 0)));
-    assert_eq!(out[..4], [0xFF, 0xFF, 0, 0]);
-    2
+    for (part, answer) in &rows {
+        assert_eq!(write(&mut out, 0, part), said(*answer), "{}", part.len());
+        assert!(out == wanted, "{}: the output", part.len());
+    }
+    rows.len() as u64
 }
