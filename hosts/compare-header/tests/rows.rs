@@ -172,7 +172,7 @@ fn headers_read() {
 fn headers_written() {
     let rows = header_writes::header_v2_is_read_and_written(&Both)
         + header_writes::header_h_is_written_with_each_fault(&Both);
-    held(rows, 3 + 15, "rows of headers written");
+    held(rows, 5 + 15, "rows of headers written");
 }
 
 #[test]
@@ -201,7 +201,7 @@ fn authentication_records() {
 #[test]
 fn messages_of_four_gibibytes() {
     let rows = sizes::messages_of_four_gibibytes(&Both);
-    held(rows, 34, "rows of messages of 4 GiB");
+    held(rows, 5 * 7 + 4, "rows of messages of 4 GiB");
 }
 
 /// The listing by the exported operation, in an output that is long enough.
@@ -219,5 +219,5 @@ fn listed() {
         + listings::the_listings_tables_have_limits(listing)
         // The limit is that of reading input; what a host is told has none.
         + listings::the_programs_input_has_a_limit(reference::listing, reads::host_answer);
-    held(rows, 1 + 5 + 4 + 4, "rows of listings");
+    held(rows, 2 + 5 + 4 + 4, "rows of listings");
 }

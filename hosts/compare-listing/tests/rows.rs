@@ -12,6 +12,6 @@ fn hand_written_rows() {
         + listings::refusals_are_listed(program)
         + listings::the_listings_tables_have_limits(program)
         + listings::the_programs_input_has_a_limit(program, host_answer);
-    assert_eq!(rows, 1 + 5 + 4 + 4);
+    assert_eq!(rows, 2 + 5 + 4 + 4);
     compared(rows, "rows of listings by the program");
 }

@@ -8,7 +8,7 @@ use generator::rows::header_writes;
 #[test]
 fn header_v2_is_read_and_written() {
     let rows = header_writes::header_v2_is_read_and_written(&Reference);
-    report_rows("header of version 2", rows, 3);
+    report_rows("header of version 2", rows, 5);
 }
 
 #[test]

@@ -12,7 +12,7 @@ use reference::{host_answer, listing};
 #[test]
 fn header_h_is_listed() {
     let rows = listings::header_h_is_listed(listing, host_answer);
-    report_rows("header H listed", rows, 1);
+    report_rows("header H listed", rows, 2);
 }
 
 #[test]
