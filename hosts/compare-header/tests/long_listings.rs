@@ -45,7 +45,9 @@ fn long(version: u32, length: usize) -> Fields {
 }
 
 /// Of every length around 65,536 and 70,000 that the parity allows, and around
-/// twice 65,536.
+/// twice 65,536. The shortest listings are of odd lengths, the tail in them has
+/// two digits, and a long one's five: so each long listing's length is even,
+/// and the twelve go from ten bytes below to twelve above.
 #[test]
 fn one_long_part() {
     let mut answers = Answers::default();
@@ -53,17 +55,21 @@ fn one_long_part() {
     for version in [1, 2] {
         let shortest = listing(&long(version, 0)).len();
         for around in [65_536, 70_000, 131_072] {
-            let digits = |more: usize| (around + more - 12 - shortest) / 2;
-            for length in (0..12).map(digits).filter(|&length| length <= LONGEST) {
+            let digits = |more: usize| (around + 2 * more - 12 - shortest) / 2;
+            for (nth, length) in (0..12).map(digits).enumerate() {
+                assert!(length <= LONGEST, "{length}");
                 let listed = list(&mut answers, &long(version, length));
-                assert!(listed.abs_diff(around) < 30, "{listed} around {around}");
+                assert_eq!(listed, around - 10 + 2 * nth);
                 accepted += fitting(listed);
             }
         }
     }
+    // Of each twelve, six are no longer than `around`, and five shorter. All
+    // fit the rooms above, and two of their own.
+    let below = [5 + 6 + 4 * 12, 5 + 6 + 6 + 12, 6].iter().sum::<u64>();
     let lists = 2 * 3 * 12;
+    assert_eq!(accepted, 2 * below + 2 * lists);
     let wanted = [(0, accepted), (28, 9 * lists - accepted)];
-    assert!(accepted > 2 * lists && accepted < 8 * lists, "{accepted}");
     answers.assert_are("listings of about 65,536 to 131,072 bytes", &wanted);
 }
 
