@@ -1,4 +1,4 @@
-//! Neighbours that can't both hold of one request. They are asked for all the
+//! Faults that can't both hold of one request. They are asked for all the
 //! same: the second is there to be met as soon as the first is mended.
 
 use super::every_pair::number_of;
@@ -6,8 +6,15 @@ use super::every_pair::number_of;
 const CUT: &str = "what the second looks at is in the bytes that are wanted";
 const LENGTH: &str = "how much the second wants is in the bytes that are wanted";
 
-/// Pairs that only what they mean keeps apart.
+const EMPTY: &str = "a section of length 2 has no pairs to be cut in";
+
+/// Neighbours that only what they mean keeps apart.
 pub const NAMED: &[(&str, &str, &str)] = &[
+    (
+        "3 version",
+        "4 other version",
+        "an unknown version is no other",
+    ),
     ("6 suite", "7 suite", "an unknown suite is of no version"),
     ("8 count", "21 old form", "the count is not 0, or 0"),
     ("8 count", "9 no pairs", "the length is 2, or another"),
@@ -21,6 +28,23 @@ pub const NAMED: &[(&str, &str, &str)] = &[
     ("27 key count", "27 key part", "one test"),
 ];
 
+/// The same of faults that others stand between.
+pub const FARTHER: &[(&str, &str, &str)] = &[
+    ("8 count", "14 end", "the length is 2, or another"),
+    ("21 old form", "14 end", "the length is 2, or another"),
+    ("10 key 2", "12 key 2", "key 1 would be refused"),
+    ("10 key 3", "12 key 3", "key 1 would be refused"),
+    ("10 key 4", "12 key 4", "key 1 would be refused"),
+    ("17 content type", "20 framed", "an unknown type is neither"),
+    (
+        "17 content type",
+        "20 non-framed",
+        "an unknown type is neither",
+    ),
+    ("26 pair place", "10 key 4", "no bytes are there"),
+    ("26 pair place", "12 key 4", "no bytes are there"),
+];
+
 /// Shortages that leave what the second looks at: the suite data stands
 /// behind the frame length, and a table is held against a count.
 pub const SEEN: &[(&str, &str)] = &[
@@ -30,7 +54,14 @@ pub const SEEN: &[(&str, &str)] = &[
     ("2 ciphertext 2", "23 key table"),
 ];
 
-/// Why two neighbours never hold of one request, if they don't.
+fn in_a_pair(name: &str) -> bool {
+    name != "2 key count"
+        && ["2 key ", "2 value "]
+            .iter()
+            .any(|head| name.starts_with(head))
+}
+
+/// Why two faults never hold of one request, if they don't.
 pub fn apart(first: &str, second: &str) -> Option<&'static str> {
     if SEEN.contains(&(first, second)) {
         return None;
@@ -40,8 +71,10 @@ pub fn apart(first: &str, second: &str) -> Option<&'static str> {
         (2, 2) if second == "2 whole section" => Some(LENGTH),
         (2, 2) => None,
         (2, _) => Some(CUT),
+        (8 | 21, 2) if in_a_pair(second) => Some(EMPTY),
         _ => NAMED
             .iter()
+            .chain(FARTHER)
             .find(|named| (named.0, named.1) == (first, second))
             .map(|named| named.2),
     }

@@ -1,7 +1,7 @@
 //! Two faults of a list at a time.
 
 use super::apart::apart;
-use compare_header::{compared, say, Coverage};
+use compare_header::{compared, Coverage};
 use generator::faults::{Draft, ReadDraft, RecordDraft, WriteDraft};
 use std::collections::BTreeSet;
 
@@ -90,35 +90,37 @@ impl<D: Draft> Listed<D> {
                 let both = first.planted(&alone);
                 let names = (&first.name, &second.name);
                 assert_eq!(ask(&both), first.wanted(&both), "{operation}: {names:?}");
-                seen.insert(names);
+                assert!(seen.insert(names), "{operation}: {names:?} again");
+                self.assert_together(first, second, &both);
             }
         }
-        let together = self.assert_neighbours(&seen);
-        let neighbours = self.list.len() - 1;
-        say(&format!(
-            "{}: {together} of {neighbours} neighbours hold together",
-            self.what()
-        ));
-        compared(seen.len() as u64, &self.what());
+        compared(seen.len() as u64, &self.what("pairs of faults"));
+        compared(self.neighbours(), &self.what("neighbours together"));
     }
 
-    fn what(&self) -> String {
+    fn what(&self, what: &str) -> String {
         let operation = self.operation;
         match self.version {
-            Some(version) => format!("pairs of faults: {operation}, version {version}"),
-            None => format!("pairs of faults: {operation}"),
+            Some(version) => format!("{what}: {operation}, version {version}"),
+            None => format!("{what}: {operation}"),
         }
     }
 
-    /// Every two neighbours were in one request; gives how many of them hold
-    /// of it together.
-    fn assert_neighbours(&self, seen: &BTreeSet<(&String, &String)>) -> usize {
-        let mut together = 0;
-        for two in self.list.windows(2) {
-            let names = (&two[0].name, &two[1].name);
-            assert!(seen.contains(&names), "{}: {names:?}", self.operation);
-            together += usize::from(apart(names.0, names.1).is_none());
-        }
-        together
+    /// Two faults that can hold together do: planted the other way round they
+    /// give the same request, so neither is lost under the one planted later.
+    fn assert_together(&self, first: &Fault<D>, second: &Fault<D>, both: &D) {
+        let names = (&first.name, &second.name);
+        let other = second.planted(&first.planted(&self.sound));
+        assert!(
+            other == *both || apart(names.0, names.1).is_some(),
+            "{}: {names:?}: one is lost under the other",
+            self.operation
+        );
+    }
+
+    /// How many neighbours hold together.
+    fn neighbours(&self) -> u64 {
+        let together = |two: &&[Fault<D>]| apart(&two[0].name, &two[1].name).is_none();
+        self.list.windows(2).filter(together).count() as u64
     }
 }

@@ -41,3 +41,19 @@ fn pairs_that_are_named_are_neighbours() {
         );
     }
 }
+
+/// The same of those that others stand between.
+#[test]
+fn pairs_that_are_farther_apart_are_listed() {
+    let operations = operations();
+    for (first, second, _) in apart::FARTHER {
+        let between = |names: &Names| {
+            let at = |wanted: &str| names.iter().position(|name| name == wanted);
+            matches!((at(first), at(second)), (Some(a), Some(b)) if a + 1 < b)
+        };
+        assert!(
+            operations.iter().any(between),
+            "no list has {first} far before {second}"
+        );
+    }
+}

@@ -12,10 +12,7 @@ pub fn context(mode: Mode) -> Faults {
     let mut list = vec![
         read("2 section length", |d| d.cut(Area::Context, 0)),
         read("2 whole section", |d| d.cut(Area::Context, 1)),
-        read("2 pair count", |d| {
-            d.section_length = Some(1);
-            d.cut(Area::Context, 2)
-        }),
+        read("2 pair count", |d| d.cut_pair_count()),
         read("8 count", |d| d.section(2, 1)),
     ];
     if mode == Mode::Strict {
@@ -34,15 +31,13 @@ fn pair(at: usize) -> Faults {
     let mut list = vec![
         read(&name("2 key # length"), move |d| d.cut_pair(at, 0)),
         read(&name("2 key #"), move |d| d.cut_pair(at, 1)),
-        read(&name("10 key #"), move |d| d.fields.pairs[at].0[0] = 0xFF),
+        read(&name("10 key #"), move |d| d.bad_key(at)),
         read(&name("2 value # length"), move |d| d.cut_pair(at, 2)),
         read(&name("2 value #"), move |d| d.cut_pair(at, 3)),
         read(&name("11 value #"), move |d| d.fields.pairs[at].1[0] = 0xFF),
     ];
     if at > 0 {
-        list.push(read(&name("12 key #"), move |d| {
-            d.fields.pairs[at].0 = d.fields.pairs[at - 1].0.clone()
-        }));
+        list.push(read(&name("12 key #"), move |d| d.repeat_key(at)));
     }
     list.push(read(&name("13 pairs to #"), move |d| d.stretch(at)));
     list

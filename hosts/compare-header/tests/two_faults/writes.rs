@@ -36,17 +36,13 @@ fn pairs() -> Faults {
 fn pair(at: usize) -> Faults {
     let name = |what: &str| format!("{what} {}", at + 1);
     let mut list = vec![
-        write(&name("10 key"), move |d| {
-            WriteDraft::bad_part(&mut d.pairs, 2 * at)
-        }),
+        write(&name("10 key"), move |d| d.bad_key(at)),
         write(&name("11 value"), move |d| {
             WriteDraft::bad_part(&mut d.pairs, 2 * at + 1)
         }),
     ];
     if at > 0 {
-        list.push(write(&name("12 key"), move |d| {
-            d.pairs.copy_within(4 * at - 4..4 * at - 2, 4 * at)
-        }));
+        list.push(write(&name("12 key"), move |d| d.repeat_key(at)));
     }
     list
 }

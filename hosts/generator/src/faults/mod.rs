@@ -3,7 +3,8 @@
 //!
 //! A fault that is planted later goes on top of one that is there: where both
 //! want the same bytes, the later one has them. So a request with the second
-//! fault alone is the one with both in which the first is mended.
+//! fault alone is the one with both in which the first is mended. Two that can
+//! hold together are planted so that their order doesn't matter.
 
 mod reading;
 mod record;
@@ -14,7 +15,7 @@ pub use record::RecordDraft;
 pub use writing::WriteDraft;
 
 /// A request with or without faults.
-pub trait Draft: Clone {
+pub trait Draft: Clone + PartialEq {
     /// The position that a shortage wants; 0 where the message isn't cut.
     fn position(&self) -> u64;
 }

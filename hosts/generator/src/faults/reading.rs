@@ -3,12 +3,13 @@
 use super::Draft;
 use crate::fields::{back, front, Fields};
 use crate::image::{keys, pairs_length, section_with, Image};
+use crate::Pair;
 
 /// A run of reads. A read is named by its area and its number there, as
 /// `Image::stops` counts them: in a context section the length, the whole
 /// section, the count, then four a pair; in a key section the count, then six
 /// a key.
-#[derive(Clone, Copy, Debug, PartialEq, Eq)]
+#[derive(Clone, Copy, Debug, PartialEq, Eq, PartialOrd, Ord)]
 pub enum Area {
     Front,
     Context,
@@ -21,13 +22,14 @@ pub enum Area {
 const BEFORE: usize = 3;
 
 /// Two pairs and two keys, whole, with tables that just hold them.
-#[derive(Clone, Debug)]
+#[derive(Clone, Debug, PartialEq)]
 pub struct ReadDraft {
     areas: &'static [Area],
     pub fields: Fields,
     pub version_byte: Option<u8>,
     pub section_length: Option<u16>,
     pub pair_count: Option<u16>,
+    without_pairs: bool,
     pub reserved: [u8; 4],
     cut: Option<(Area, usize)>,
     pub start: u64,
@@ -36,6 +38,13 @@ pub struct ReadDraft {
     pub key_numbers: usize,
     pub asked: Vec<u8>,
     pub room: usize,
+}
+
+fn sound_pairs() -> Vec<Pair> {
+    vec![
+        (b"lang".to_vec(), b"cy-GB".to_vec()),
+        (b"line".to_vec(), b"first".to_vec()),
+    ]
 }
 
 /// Fields of a version. All keys are of one length, and all values, so that a
@@ -48,10 +57,7 @@ pub(super) fn sound_fields(version: u32) -> Fields {
         message_type: if first { 0x80 } else { 0 },
         suite: if first { 0x0178 } else { 0x0578 },
         id: (0..if first { 16 } else { 32 }).collect(),
-        pairs: vec![
-            (b"lang".to_vec(), b"cy-GB".to_vec()),
-            (b"line".to_vec(), b"first".to_vec()),
-        ],
+        pairs: sound_pairs(),
         keys: vec![key([b"p1", b"a", b"abc"]), key([b"p2", b"b", b"def"])],
         content_type: 2,
         iv_length: if first { 12 } else { 0 },
@@ -68,6 +74,7 @@ impl ReadDraft {
             version_byte: None,
             section_length: None,
             pair_count: None,
+            without_pairs: false,
             reserved: [0; 4],
             cut: None,
             start: BEFORE as u64,
@@ -98,12 +105,13 @@ impl ReadDraft {
         match area {
             Area::Front => front(fields),
             Area::Context => {
+                let pairs = self.pairs();
                 // Pairs that are too long have no length that is right.
-                let right = 2 + pairs_length(&fields.pairs);
+                let right = 2 + pairs_length(pairs);
                 let right = u16::try_from(right).unwrap_or(u16::MAX);
                 let length = self.section_length.unwrap_or(right);
-                let count = self.pair_count.unwrap_or(fields.pairs.len() as u16);
-                section_with(&fields.pairs, length, count)
+                let count = self.pair_count.unwrap_or(pairs.len() as u16);
+                section_with(pairs, length, count)
             }
             Area::Keys => keys(&fields.keys),
             Area::Back => back(fields, self.reserved),
@@ -137,15 +145,28 @@ impl ReadDraft {
         BEFORE + before + self.image(cut).stops[read] as usize
     }
 
-    /// The message ends a byte before the end of this read.
+    /// The message ends a byte before the end of this read; one that ends
+    /// before lacks this read as well.
     pub fn cut(&mut self, area: Area, read: usize) {
-        self.cut = Some((area, read));
+        let cut = (area, read);
+        self.cut = Some(self.cut.map_or(cut, |earlier| earlier.min(cut)));
+    }
+
+    /// The whole section is there, by a stored length of at most this.
+    fn section_of_at_most(&mut self, length: u16) {
+        let shorter = self.section_length.map_or(length, |now| now.min(length));
+        self.section_length = Some(shorter);
+    }
+
+    /// The same in the count of pairs.
+    pub fn cut_pair_count(&mut self) {
+        self.section_of_at_most(1);
+        self.cut(Area::Context, 2);
     }
 
     /// The same in a pair: 0 the key's length, 1 the key, 2 and 3 the value's.
-    /// The whole section is there, so its stored length has to end before.
     pub fn cut_pair(&mut self, pair: usize, read: usize) {
-        self.section_length = Some(3);
+        self.section_of_at_most(3);
         self.cut(Area::Context, 3 + 4 * pair + read);
     }
 
@@ -165,22 +186,43 @@ impl ReadDraft {
     /// stay behind it.
     pub fn old_form(&mut self) {
         self.section(2, 0);
-        if !matches!(self.cut, Some((Area::Context, _))) {
-            self.fields.pairs.clear();
+        self.without_pairs = true;
+    }
+
+    fn pairs(&self) -> &[Pair] {
+        match self.cut {
+            Some((Area::Context, _)) => &self.fields.pairs,
+            _ if self.without_pairs => &[],
+            _ => &self.fields.pairs,
         }
     }
 
-    /// The stored length goes a byte beyond the pairs.
+    /// The stored length goes a byte beyond the pairs; where these are
+    /// stretched, it isn't theirs either.
     pub fn section_too_long(&mut self) {
-        self.section_length = Some(3 + pairs_length(&self.fields.pairs) as u16);
+        self.section_length = Some(3 + pairs_length(&sound_pairs()) as u16);
     }
 
-    /// The pairs up to this one take 65,534 bytes.
+    /// A key that isn't UTF-8; a later one that repeats it still does.
+    pub fn bad_key(&mut self, pair: usize) {
+        let key = self.fields.pairs[pair].0.clone();
+        let later = self.fields.pairs[pair..].iter_mut();
+        for (repeated, _) in later.filter(|pair| pair.0 == key) {
+            repeated[0] = 0xFF;
+        }
+    }
+
+    /// The first key again.
+    pub fn repeat_key(&mut self, pair: usize) {
+        self.fields.pairs[pair].0 = self.fields.pairs[0].0.clone();
+    }
+
+    /// The pairs up to this one take 65,534 bytes, and more where an earlier
+    /// one is stretched as well.
     pub fn stretch(&mut self, pair: usize) {
-        let pairs = &mut self.fields.pairs;
-        let more = 65_534 - pairs_length(&pairs[..=pair]);
-        let value = &mut pairs[pair].1;
-        value.resize(value.len() + more, b'a');
+        let before = pairs_length(&sound_pairs()[..pair]);
+        let (key, value) = &mut self.fields.pairs[pair];
+        value.resize(65_534 - before - 2 - key.len() - 2, b'a');
     }
 
     /// The content type and the frame length.

@@ -7,7 +7,7 @@ const BEFORE: usize = 3;
 
 /// A record of a suite: an IV and a tag to write, and a message that holds
 /// them as the suite's version stores them.
-#[derive(Clone, Debug)]
+#[derive(Clone, Debug, PartialEq)]
 pub struct RecordDraft {
     pub suite: u32,
     pub iv: Vec<u8>,
@@ -34,9 +34,10 @@ impl RecordDraft {
         }
     }
 
-    /// The message ends a byte before the end of this read.
+    /// The message ends a byte before the end of this read; one that ends
+    /// before lacks this read as well.
     pub fn cut(&mut self, read: usize) {
-        self.cut = Some(read);
+        self.cut = Some(self.cut.map_or(read, |earlier| earlier.min(read)));
     }
 
     pub fn message(&self) -> Vec<u8> {

@@ -8,7 +8,7 @@ use crate::{Key, Pair};
 
 /// Four pairs and two keys, of parts of four bytes, and an output that just
 /// holds what is written. Texts are spoilt in any of them, tables in the last.
-#[derive(Clone, Debug)]
+#[derive(Clone, Debug, PartialEq)]
 pub struct WriteDraft {
     /// Version, type, suite, content type, IV length and frame length.
     pub numbers: [u32; 6],
@@ -20,6 +20,7 @@ pub struct WriteDraft {
     pub room: usize,
 }
 
+const PAIRS: usize = 4;
 const PART: usize = 4;
 const PARTS: usize = 14;
 /// Where the text has no UTF-8.
@@ -85,9 +86,24 @@ impl WriteDraft {
         table[2 * part] = BAD;
     }
 
-    /// A table with 65,536 entries, the first of them as they were.
+    /// A key that isn't UTF-8; a later one that repeats it still does.
+    pub fn bad_key(&mut self, pair: usize) {
+        let place = self.pairs[4 * pair];
+        let later = self.pairs[4 * pair..4 * PAIRS].iter_mut().step_by(4);
+        for repeated in later.filter(|start| **start == place) {
+            *repeated = BAD;
+        }
+    }
+
+    /// The first key again.
+    pub fn repeat_key(&mut self, pair: usize) {
+        self.pairs.copy_within(0..2, 4 * pair);
+    }
+
+    /// A table with 65,536 entries, the first of them as they were, and with
+    /// what it has beyond whole entries.
     pub fn too_many(table: &mut Vec<u32>, numbers: usize) {
-        table.resize(65_536 * numbers, 0);
+        table.resize(65_536 * numbers + table.len() % numbers, 0);
     }
 
     /// A place a byte behind the text.
@@ -96,12 +112,12 @@ impl WriteDraft {
         table[2 * part + 1] = PART as u32;
     }
 
-    /// A part of this length; one that isn't UTF-8 stays that.
+    /// A part of at least this length; one that isn't UTF-8 stays that.
     pub fn long_part(table: &mut [u32], part: usize, length: u32) {
         if table[2 * part] != BAD {
             table[2 * part] = LONG;
         }
-        table[2 * part + 1] = length;
+        table[2 * part + 1] = length.max(table[2 * part + 1]);
     }
 }
 
