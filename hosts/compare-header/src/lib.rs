@@ -1,14 +1,16 @@
 //! The proved operations held against the separate implementation.
 //!
 //! The functions of `reads` and `writes` hand one request to both, and hold
-//! the answers and everything lent against each other, byte for byte. The
-//! tests only make requests.
+//! the answers, tables and outputs against each other, byte for byte. What is
+//! lent to be read is held against a copy: of up to 4,096 bytes after each
+//! call, of up to 1 MiB once in 17 times. The tests only make requests.
 #![forbid(unsafe_code)]
 
 pub mod answers;
 pub mod every;
 pub mod expected;
 pub mod guarded;
+pub mod kept;
 pub mod numbers;
 mod parts;
 pub mod reads;

@@ -1,6 +1,7 @@
 //! One request to read, handed to both.
 
 use crate::guarded::Guarded;
+use crate::kept::Kept;
 use crate::numbers::{self, auth, body, place, refused, section};
 use crate::numbers::{Answer, AuthRecord, Body, Ours, Section};
 use crate::parts::{keys_are, pairs_are};
@@ -57,7 +58,9 @@ pub fn read_aad_section(
     table: &[u32],
 ) -> (Answer<Section>, Vec<u32>) {
     let (mut ours, mut theirs) = (Guarded::new(table), table.to_vec());
+    let kept = Kept::new([message]);
     let read = bafirolen::read_aad_section(message, start, mode, ours.lend());
+    kept.assert_unchanged("read a context section");
     let answer = read.as_ref().map(Ours::owned).map_err(Refusal::clone);
     let wanted = reference::read_aad_section(message, start, numbers::mode(mode), &mut theirs)
         .map(|read| section(read.pairs, read.tail))
@@ -80,7 +83,9 @@ pub fn read_encrypted_data_keys_section(
     table: &[u32],
 ) -> (Answer<Section>, Vec<u32>) {
     let (mut ours, mut theirs) = (Guarded::new(table), table.to_vec());
+    let kept = Kept::new([message]);
     let read = bafirolen::read_encrypted_data_keys_section(message, start, max, ours.lend());
+    kept.assert_unchanged("read a key section");
     let answer = read.as_ref().map(Ours::owned).map_err(Refusal::clone);
     let wanted = reference::read_encrypted_data_keys_section(message, start, max, &mut theirs)
         .map(|read| section(read.keys, read.tail))
@@ -131,8 +136,10 @@ pub fn read_header_body(
         pairs: pairs.to_vec(),
         keys: keys.to_vec(),
     };
+    let kept = Kept::new([message]);
     let read =
         bafirolen::read_header_body(message, start, request, our_pairs.lend(), our_keys.lend());
+    kept.assert_unchanged("read a body");
     let answer = read.as_ref().map(Ours::owned).map_err(Refusal::clone);
     let wanted = reference::read_header_body(
         message,
@@ -157,7 +164,9 @@ pub fn read_header_body(
 
 /// An authentication record.
 pub fn read_header_auth_tag(message: &[u8], start: u64, suite: u32) -> Answer<AuthRecord> {
+    let kept = Kept::new([message]);
     let read = bafirolen::read_header_auth_tag(message, start, suite);
+    kept.assert_unchanged("read a record");
     let answer = read.map(|record| record.owned());
     let wanted = reference::read_header_auth_tag(message, start, suite)
         .map(auth)
@@ -169,7 +178,9 @@ pub fn read_header_auth_tag(message: &[u8], start: u64, suite: u32) -> Answer<Au
 /// A value's place; what its companion returns: the same part, at the same
 /// place in memory; and its copy.
 pub fn find_value(message: &[u8], start: u64, key: &[u8]) -> Answer<Place> {
+    let kept = Kept::new([message, key]);
     let answer = bafirolen::find_value(message, start, key);
+    kept.assert_unchanged("find a value");
     let wanted = reference::find(message, start, key)
         .map(place)
         .map_err(refused);
@@ -208,7 +219,9 @@ pub fn copy_value(message: &[u8], start: u64, key: &[u8], out: &[u8]) -> (Answer
         copied[..value.len()].copy_from_slice(value);
     }
     let mut ours = Guarded::new(out);
+    let kept = Kept::new([message, key]);
     let answer = bafirolen::copy_value(message, start, key, ours.lend());
+    kept.assert_unchanged("copy a value");
     same(&answer, &wanted, (Asked(key), out.len()), message, start);
     ours.assert_holds(&copied, "a value's copy");
     (answer, copied)
@@ -225,10 +238,12 @@ fn copies(message: &[u8], start: u64, key: &[u8]) {
 
 /// The number and the position that a host is told, a call each.
 pub fn host_answer(message: &[u8], start: u64) -> (u32, u64) {
+    let kept = Kept::new([message]);
     let ours = (
         bafirolen::header_number(message, start),
         bafirolen::header_position(message, start),
     );
+    kept.assert_unchanged("what a host is told");
     let theirs = reference::host_answer(message, start);
     assert!(
         ours == theirs,

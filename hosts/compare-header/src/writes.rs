@@ -1,6 +1,7 @@
 //! One request to write, handed to both.
 
 use crate::guarded::Guarded;
+use crate::kept::Kept;
 use crate::numbers::{refused, their_numbers, Answer};
 use crate::reads::few;
 use bafirolen::{Draft, Numbers, Refusal};
@@ -36,15 +37,20 @@ impl<'a> BodyLent<'a> {
     }
 }
 
-/// The answers, and the outputs afterwards; gives ours, and the output.
-fn both(
+/// The answers, and the outputs and what is lent beside them afterwards; gives
+/// ours, and the output.
+fn both<const BYTES: usize, const TABLES: usize>(
     out: &[u8],
+    lent: ([&[u8]; BYTES], [&[u32]; TABLES]),
     what: impl Fn() -> String,
     ours: impl FnOnce(&mut [u8]) -> Result<usize, Refusal>,
     theirs: impl FnOnce(&mut [u8]) -> Result<u64, reference::Refusal>,
 ) -> (Answer<usize>, Vec<u8>) {
     let (mut our_out, mut their_out) = (Guarded::new(out), out.to_vec());
+    let (bytes, tables) = (Kept::new(lent.0), Kept::new(lent.1));
     let answer = ours(our_out.lend());
+    bytes.assert_unchanged("bytes of a writer");
+    tables.assert_unchanged("tables of a writer");
     let wanted = theirs(&mut their_out)
         .map(|length| length as usize)
         .map_err(refused);
@@ -61,6 +67,7 @@ fn both(
 pub fn write_aad_section(text: &[u8], pairs: &[u32], out: &[u8]) -> (Answer<usize>, Vec<u8>) {
     both(
         out,
+        ([text], [pairs]),
         || format!("pairs {:?} of {:02X?}", few(pairs), few(text)),
         |out| bafirolen::write_aad_section(text, pairs, out),
         |out| reference::write_aad_section(text, pairs, out),
@@ -74,6 +81,7 @@ pub fn write_encrypted_data_keys_section(
 ) -> (Answer<usize>, Vec<u8>) {
     both(
         out,
+        ([text], [keys]),
         || format!("keys {:?} of {:02X?}", few(keys), few(text)),
         |out| bafirolen::write_encrypted_data_keys_section(text, keys, out),
         |out| reference::write_encrypted_data_keys_section(text, keys, out),
@@ -88,6 +96,7 @@ pub fn write_header_auth_tag(
 ) -> (Answer<usize>, Vec<u8>) {
     both(
         out,
+        ([iv, tag], []),
         || {
             format!(
                 "suite {suite:04X}, IV {:02X?}, tag {:02X?}",
@@ -103,6 +112,7 @@ pub fn write_header_auth_tag(
 pub fn write_listing(message: &[u8], out: &[u8]) -> (Answer<usize>, Vec<u8>) {
     both(
         out,
+        ([message], []),
         || format!("{:02X?}", few(message)),
         |out| bafirolen::write_listing(message, out),
         |out| reference::write_listing(message, out),
@@ -110,8 +120,10 @@ pub fn write_listing(message: &[u8], out: &[u8]) -> (Answer<usize>, Vec<u8>) {
 }
 
 pub fn write_header_body(lent: BodyLent, out: &[u8]) -> (Answer<usize>, Vec<u8>) {
+    let bytes = [lent.message_id, lent.suite_data, lent.text];
     both(
         out,
+        (bytes, [lent.pairs, lent.keys]),
         || format!("{:02X?}", lent.shown()),
         |out| bafirolen::write_header_body(&lent.draft(), out),
         |out| {
