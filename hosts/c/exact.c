@@ -22,10 +22,15 @@ static const uint8_t V2[108] = {
     0x40, 0x41, 0x42, 0x43, 0x44, 0x45, 0x46, 0x47, 0x48, 0x49, 0x4A, 0x4B, 0x4C, 0x4D, 0x4E, 0x4F,
     0x50, 0x51, 0x52, 0x53, 0x54, 0x55, 0x56, 0x57, 0x58, 0x59, 0x5A, 0x5B, 0x5C, 0x5D, 0x5E, 0x5F};
 
-/* an allocation of exactly these bytes; freed by let_go */
-static void *lent[8];
+/* allocations of exactly the bytes that are lent; of what is lent to be read, where it was copied from */
+static struct {
+    void *copy;
+    const void *read_only;
+    size_t n;
+} lent[8];
 static size_t lent_count;
 
+/* to be changed */
 static void *lend(const void *bytes, size_t n)
 {
     void *copy = malloc(n);
@@ -33,13 +38,29 @@ static void *lend(const void *bytes, size_t n)
         abort();
     }
     memcpy(copy, bytes, n);
-    return lent[lent_count++] = copy;
+    lent[lent_count].copy = copy;
+    lent[lent_count].read_only = NULL;
+    lent[lent_count++].n = n;
+    return copy;
 }
 
+/* to be read: the bytes stay as they are until let_go compares them */
+static const void *lend_const(const void *bytes, size_t n)
+{
+    const void *copy = lend(bytes, n);
+    lent[lent_count - 1].read_only = bytes;
+    return copy;
+}
+
+/* what was lent to be read is the same; all is freed */
 static void let_go(void)
 {
     while (lent_count > 0) {
-        free(lent[--lent_count]);
+        lent_count--;
+        if (lent[lent_count].read_only != NULL) {
+            same_bytes("what is lent to be read", lent[lent_count].copy, lent[lent_count].read_only, lent[lent_count].n);
+        }
+        free(lent[lent_count].copy);
     }
 }
 
@@ -51,7 +72,7 @@ static void read_body(const uint8_t *m, size_t n, uint32_t which, uint32_t mode,
     fresh();
     p = lend(pairs, np * sizeof *p);
     k = lend(keys, nk * sizeof *k);
-    exact = bafirolen_read_header_body(lend(m, n), n, 0, which, mode, BAFIROLEN_NO_MAX, 0, p, np, k, nk);
+    exact = bafirolen_read_header_body(lend_const(m, n), n, 0, which, mode, BAFIROLEN_NO_MAX, 0, p, np, k, nk);
     roomy = bafirolen_read_header_body(m, n, 0, which, mode, BAFIROLEN_NO_MAX, 0, pairs, np, keys, nk);
     same_bytes("a body", &exact, &roomy, sizeof exact);
     same_bytes("its pairs", p, pairs, np * sizeof *p);
@@ -62,7 +83,8 @@ static void read_body(const uint8_t *m, size_t n, uint32_t which, uint32_t mode,
 /* the two sections, the record of a suite, one value, and what a host is told, at a start */
 static void read_parts(const uint8_t *m, size_t n, uint64_t start, size_t np, size_t nk)
 {
-    const uint8_t *message = lend(m, n), *key = lend("ab", 2);
+    static const char ab[] = "ab";
+    const uint8_t *message = lend_const(m, n), *key = lend_const(ab, 2);
     uint32_t *p, *k;
     BafirolenSection s, t;
     BafirolenPlace f, g;
@@ -130,11 +152,11 @@ static void write_again(const uint8_t *m, size_t n)
     same("a header", b.number, BAFIROLEN_ACCEPTED);
     for (room = 0; room <= n; room++) {
         uint8_t *o = lend(fresh_bytes, room);
-        text = lend(m, n);
-        id = lend(m + b.messageIdStart, b.messageIdLen);
-        data = lend(m + b.suiteDataStart, b.suiteDataLen);
-        p = lend(pairs, 16 * b.pairCount);
-        k = lend(keys, 24 * b.keyCount);
+        text = lend_const(m, n);
+        id = lend_const(m + b.messageIdStart, b.messageIdLen);
+        data = lend_const(m + b.suiteDataStart, b.suiteDataLen);
+        p = lend_const(pairs, 16 * b.pairCount);
+        k = lend_const(keys, 24 * b.keyCount);
         w = bafirolen_write_header_body(b.numbers, id, b.messageIdLen, data, b.suiteDataLen, text, n, p, 4 * b.pairCount, k,
                                      6 * b.keyCount, o, room);
         written_is("a header", w, room < n ? BAFIROLEN_REFUSED_OUTPUT_TOO_SHORT : 0, room < n ? 0 : n);
@@ -165,18 +187,18 @@ static void write_parts(void)
     fresh();
     for (room = 0; room <= 28; room++) {
         o = lend(fresh_bytes, room);
-        text = lend(H, 58);
-        w = bafirolen_write_aad_section(text, 58, lend(H_pairs, sizeof H_pairs), 4, o, room);
+        text = lend_const(H, 58);
+        w = bafirolen_write_aad_section(text, 58, lend_const(H_pairs, sizeof H_pairs), 4, o, room);
         holds("a context section", w, o, room, H + 20, 14);
-        w = bafirolen_write_encrypted_data_keys_section(text, 58, lend(H_keys, sizeof H_keys), 6, o, room);
+        w = bafirolen_write_encrypted_data_keys_section(text, 58, lend_const(H_keys, sizeof H_keys), 6, o, room);
         holds("a key section", w, o, room, H + 34, 14);
-        w = bafirolen_write_header_auth_tag(0x0014, lend(record, 12), 12, lend(record + 12, 16), 16, o, room);
+        w = bafirolen_write_header_auth_tag(0x0014, lend_const(record, 12), 12, lend_const(record + 12, 16), 16, o, room);
         holds("a record", w, o, room, record, 28);
         let_go();
     }
     for (room = 0; room <= 102; room++) {
         o = lend(fresh_bytes, room);
-        w = bafirolen_write_listing(lend(H, 58), 58, o, room);
+        w = bafirolen_write_listing(lend_const(H, 58), 58, o, room);
         holds("a listing", w, o, room, H_listing, 102);
         let_go();
     }
