@@ -18,6 +18,11 @@ fn line<'a>(text: &mut String, word: &str, parts: impl IntoIterator<Item = &'a [
 
 /// What is listed where the image of these fields stands at the front.
 pub fn listing(fields: &Fields) -> String {
+    listing_to(fields, fields.image(Form::Today).bytes.len())
+}
+
+/// What is listed of these fields where their header ends at `tail`.
+pub fn listing_to(fields: &Fields, tail: usize) -> String {
     let mut text = format!(
         "header\t{}\t{:02x}\t{:04x}\t{:02x}\t{}\t{}\n",
         fields.version,
@@ -25,7 +30,7 @@ pub fn listing(fields: &Fields) -> String {
         fields.suite,
         fields.content_type,
         fields.frame_length,
-        fields.image(Form::Today).bytes.len()
+        tail
     );
     line(&mut text, "id", [&fields.id[..]]);
     for (key, value) in &fields.pairs {

@@ -5,8 +5,9 @@ mod common;
 use common::{report, report_rows};
 use generator::fields::fields;
 use generator::image::Form;
+use generator::lines::listing_to;
 use generator::random::Random;
-use generator::rows::listings::{self, formatted};
+use generator::rows::listings;
 use reference::{host_answer, listing};
 
 #[test]
@@ -36,7 +37,8 @@ fn generated_headers_are_listed() {
         let tail = message.len();
         let behind = random.length(30);
         message.extend(random.bytes(behind));
-        assert_eq!(listing(&message), formatted(&fields, tail), "seed {seed}");
+        let wanted = listing_to(&fields, tail).into_bytes();
+        assert_eq!(listing(&message), wanted, "seed {seed}");
         assert_eq!(host_answer(&message, 0), (0, tail as u64), "seed {seed}");
     }
     report("generated headers listed", SEEDS);

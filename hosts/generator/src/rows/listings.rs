@@ -3,6 +3,7 @@
 use crate::fields::{fields, Fields};
 use crate::headers::{header_h, hex};
 use crate::image::Form;
+use crate::lines::listing as listing_of;
 use crate::random::Random;
 
 /// The listing of a message.
@@ -49,36 +50,6 @@ pub fn refusals_are_listed(listing: impl List) -> u64 {
     rows.len() as u64
 }
 
-/// A listing by string formatting.
-pub fn formatted(fields: &Fields, tail: usize) -> Vec<u8> {
-    let hex = |bytes: &[u8]| {
-        bytes
-            .iter()
-            .map(|byte| format!("{byte:02x}"))
-            .collect::<String>()
-    };
-    let mut text = format!(
-        "header\t{}\t{:02x}\t{:04x}\t{:02x}\t{}\t{}\nid\t{}\n",
-        fields.version,
-        fields.message_type,
-        fields.suite,
-        fields.content_type,
-        fields.frame_length,
-        tail,
-        hex(&fields.id)
-    );
-    for (key, value) in &fields.pairs {
-        text += &format!("pair\t{}\t{}\n", hex(key), hex(value));
-    }
-    for [provider, info, cipher] in &fields.keys {
-        text += &format!("key\t{}\t{}\t{}\n", hex(provider), hex(info), hex(cipher));
-    }
-    if fields.version == 2 {
-        text += &format!("data\t{}\n", hex(&fields.suite_data));
-    }
-    text.into_bytes()
-}
-
 /// H with other counts of pairs and keys, each pair's key of two bytes.
 fn counted(pairs: usize, keys: usize) -> Fields {
     let mut random = Random::new(1);
@@ -107,7 +78,7 @@ pub fn the_listings_tables_have_limits(listing: impl List) -> u64 {
     for (pairs, keys, wanted) in rows {
         let fields = counted(pairs, keys);
         let message = fields.image(Form::Today).bytes;
-        let wanted = wanted.unwrap_or_else(|| formatted(&fields, message.len()));
+        let wanted = wanted.unwrap_or_else(|| listing_of(&fields).into_bytes());
         assert_eq!(listing(&message), wanted, "{pairs} pairs, {keys} keys");
     }
     count
@@ -126,7 +97,7 @@ pub fn the_programs_input_has_a_limit(listing: impl List, host_answer: impl Host
         assert_eq!(end, 65_536 + more);
         message.extend([0xFF; 100]);
         let wanted = if more == 0 {
-            formatted(&fields, end)
+            listing_of(&fields).into_bytes()
         } else {
             refused(2, end as u64)
         };
