@@ -3,6 +3,7 @@
 use super::Draft;
 use crate::fields::{back, front, Fields};
 use crate::image::{keys, pairs_length, section_with, Image};
+use crate::large::plain;
 use crate::Pair;
 
 /// A run of reads. A read is named by its area and its number there, as
@@ -50,19 +51,11 @@ fn sound_pairs() -> Vec<Pair> {
 /// Fields of a version. All keys are of one length, and all values, so that a
 /// fault that is put over another moves nothing.
 pub(super) fn sound_fields(version: u32) -> Fields {
-    let first = version == 1;
     let key = |parts: [&[u8]; 3]| parts.map(|part| part.to_vec());
     Fields {
-        version,
-        message_type: if first { 0x80 } else { 0 },
-        suite: if first { 0x0178 } else { 0x0578 },
-        id: (0..if first { 16 } else { 32 }).collect(),
         pairs: sound_pairs(),
         keys: vec![key([b"p1", b"a", b"abc"]), key([b"p2", b"b", b"def"])],
-        content_type: 2,
-        iv_length: if first { 12 } else { 0 },
-        frame_length: 4096,
-        suite_data: (0..if first { 0 } else { 32 }).collect(),
+        ..plain(version)
     }
 }
 
