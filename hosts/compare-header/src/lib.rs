@@ -20,6 +20,15 @@ pub mod writes;
 use bafirolen::{Mode, Request, Which};
 pub use report::{compared, say, Coverage};
 
+pub const fn request(which: Which, mode: Mode, max: Option<u64>) -> Request {
+    // Field by field, since a request may get more of them.
+    let mut request = Request::new();
+    request.which = which;
+    request.mode = mode;
+    request.max = max;
+    request
+}
+
 /// The requests that take a version: tolerant and strict, by the reader of
 /// either version and by that of the version alone.
 pub fn requests(version: u32) -> [Request; 4] {
@@ -33,9 +42,5 @@ pub fn requests(version: u32) -> [Request; 4] {
         (only, Mode::Tolerant),
         (only, Mode::Strict),
     ]
-    .map(|(which, mode)| {
-        let mut request = Request::default();
-        (request.which, request.mode) = (which, mode);
-        request
-    })
+    .map(|(which, mode)| request(which, mode, None))
 }

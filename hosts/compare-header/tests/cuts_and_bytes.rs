@@ -2,24 +2,17 @@
 //! other, and read from starts up to the ends of 64 bits.
 
 use bafirolen::{Mode, Request, Which};
-use compare_header::{compared, reads};
+use compare_header::{compared, reads, request};
 use generator::headers::samples;
 
 const REQUESTS: [Request; 6] = [
-    request(Which::Either, Mode::Tolerant),
-    request(Which::Either, Mode::Strict),
-    request(Which::V1Only, Mode::Tolerant),
-    request(Which::V1Only, Mode::Strict),
-    request(Which::V2Only, Mode::Tolerant),
-    request(Which::V2Only, Mode::Strict),
+    request(Which::Either, Mode::Tolerant, None),
+    request(Which::Either, Mode::Strict, None),
+    request(Which::V1Only, Mode::Tolerant, None),
+    request(Which::V1Only, Mode::Strict, None),
+    request(Which::V2Only, Mode::Tolerant, None),
+    request(Which::V2Only, Mode::Strict, None),
 ];
-
-const fn request(which: Which, mode: Mode) -> Request {
-    let mut request = Request::new();
-    request.which = which;
-    request.mode = mode;
-    request
-}
 
 /// All readers on one message and start; answers how many there were.
 fn every_reader(message: &[u8], start: u64) -> u64 {

@@ -5,7 +5,7 @@ use bafirolen::{Mode, Request, Which};
 use compare_header::expected::{as_expected, parts_are};
 use compare_header::numbers::number;
 use compare_header::scale::seeds;
-use compare_header::{compared, reads, Coverage};
+use compare_header::{compared, reads, request, Coverage};
 use generator::auth_cases::auth_case;
 use generator::body_cases::{body_case, BodyCase, Reader};
 use generator::key_cases::key_case;
@@ -93,14 +93,6 @@ fn operation(request: Request) -> &'static str {
         (Which::V2Only, Mode::Tolerant) => "read body v2 tolerant",
         (Which::V2Only, Mode::Strict) => "read body v2 strict",
     }
-}
-
-fn request(which: Which, mode: Mode, max: Option<u64>) -> Request {
-    let mut request = Request::default();
-    request.which = which;
-    request.mode = mode;
-    request.max = max;
-    request
 }
 
 /// The request that the case expects an answer to.

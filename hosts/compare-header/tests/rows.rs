@@ -1,10 +1,10 @@
 //! The rows that are written by hand, held against ours and the separate
 //! implementation: what both answered is what the row has.
 
-use bafirolen::{Mode, Request, Which};
+use bafirolen::{Mode, Which};
 use compare_header::numbers::{answered, numbers, Answer};
 use compare_header::writes::{self, BodyLent};
-use compare_header::{compared, reads};
+use compare_header::{compared, reads, request};
 use generator::rows::{header_writes, headers, listings, records, section_writes, sections, sizes};
 use generator::rows::{Asked, Body, Codec, Lent, Place, Record, Refused, Section, Written};
 
@@ -77,8 +77,6 @@ impl Codec for Both {
         row(answer, |read| (read.count as u32, read.tail))
     }
 
-    // A request is made field by field, since it may get more of them.
-    #[allow(clippy::field_reassign_with_default)]
     fn read_body(
         &self,
         message: &[u8],
@@ -86,10 +84,7 @@ impl Codec for Both {
         pairs: &mut [u32],
         keys: &mut [u32],
     ) -> Result<Body, Refused> {
-        let mut request = Request::default();
-        request.which = which(asked.version);
-        request.mode = mode(asked.strict);
-        request.max = asked.max;
+        let request = request(which(asked.version), mode(asked.strict), asked.max);
         let (answer, tables) = reads::read_header_body(message, asked.start, request, pairs, keys);
         // The records were compared whole, so the other's stands for ours.
         let theirs = reference::read_header_body(

@@ -2,9 +2,9 @@
 
 use super::every_pair::{number_of, read, Listed, Names};
 use super::sections::{self, key_table, pair_table, too_large, Faults};
-use bafirolen::{Mode, Request, Which};
+use bafirolen::{Mode, Which};
 use compare_header::numbers::answered;
-use compare_header::{reads, Coverage};
+use compare_header::{reads, request, Coverage};
 use generator::faults::{Area, ReadDraft};
 
 /// A reader and the version of what it is given.
@@ -92,16 +92,6 @@ fn body((operation, which, mode, version): (&'static str, Which, Mode, u32)) -> 
 
 pub fn lists() -> Vec<Names> {
     READERS.map(|reader| body(reader).names()).into()
-}
-
-// A request is made field by field, since it may get more of them.
-#[allow(clippy::field_reassign_with_default)]
-fn request(which: Which, mode: Mode, max: Option<u64>) -> Request {
-    let mut request = Request::default();
-    request.which = which;
-    request.mode = mode;
-    request.max = max;
-    request
 }
 
 #[test]
