@@ -1,11 +1,11 @@
 //! What is written is read again, and what is read is written again.
 
-use bafirolen::{Numbers, Request, Which};
+use bafirolen::{Numbers, Request};
 use compare_header::expected::parts_are;
 use compare_header::numbers::numbers;
 use compare_header::scale::seeds;
 use compare_header::writes::BodyLent;
-use compare_header::{compared, reads, writes};
+use compare_header::{compared, reads, requests, writes};
 use generator::fields::{fields, Fields};
 use generator::image::Form;
 use generator::random::Random;
@@ -13,22 +13,6 @@ use generator::tables::lend;
 
 fn stored(fields: &Fields) -> Numbers {
     numbers(&fields.numbers().into())
-}
-
-/// Requests that take the version.
-fn requests(version: u32) -> [Request; 4] {
-    let only = if version == 1 {
-        Which::V1Only
-    } else {
-        Which::V2Only
-    };
-    let request = Request::default();
-    [
-        request,
-        request.strict(),
-        request.only(only),
-        request.only(only).strict(),
-    ]
 }
 
 #[test]
