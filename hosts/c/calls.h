@@ -3,19 +3,13 @@
 #define CALLS_H
 
 #include "bodies.h"
+#include "compare.h"
 
 /* what a call is lent to change, and what it answers */
 struct lent {
     uint32_t pairs[4 * MOST_PAIRS], keys[6 * MOST_KEYS];
     uint8_t out[2 * sizeof body.bytes + 28];
-    union {
-        BafirolenBody body;
-        BafirolenSection section;
-        BafirolenPlace place;
-        BafirolenAuth auth;
-        BafirolenWritten written;
-        uint64_t number;
-    } answer;
+    union answered answer;
 };
 
 static struct lent *lent;

@@ -18,6 +18,16 @@ typedef char sizes[(sizeof(BafirolenSection) == 32 && sizeof(BafirolenPlace) == 
                     && sizeof(BafirolenBody) == 96 && sizeof(BafirolenWritten) == 24 && sizeof(BafirolenNumbers) == 24)
                        ? 1
                        : -1];
+
+/* what a call answers */
+union answered {
+    BafirolenBody body;
+    BafirolenSection section;
+    BafirolenPlace place;
+    BafirolenAuth auth;
+    BafirolenWritten written;
+    uint64_t number;
+};
 typedef char offsets[(offsetof(BafirolenWritten, position) == 8 && offsetof(BafirolenWritten, length) == 16
                       && offsetof(BafirolenAuth, iv) == 24 && offsetof(BafirolenAuth, tag) == 36
                       && offsetof(BafirolenBody, numbers) == 16 && offsetof(BafirolenBody, messageIdStart) == 40

@@ -40,14 +40,7 @@ static void *empty_part;
 #define MESSAGE LENT(0, h->bytes, h->length)
 
 static struct answer {
-    union {
-        BafirolenBody body;
-        BafirolenSection section;
-        BafirolenPlace place;
-        BafirolenAuth auth;
-        BafirolenWritten written;
-        uint64_t number;
-    } record;
+    union answered record;
     uint32_t pairs[NUMBERS], keys[NUMBERS];
     uint8_t out[BYTES];
 } answer;

@@ -18,13 +18,13 @@ use Rattle.context.specs.declared.FoundAnswer.{FoundAnswer}
 use Rattle.context.specs.declared.FoundAnswer.the-variants as found
 use Rattle.checks.proofs.Writers.{stored-first, whole-bytes}
 use Rattle.bafirolen_c.specs.declared.BafirolenWritten.{BafirolenWritten}
-use Rattle.bafirolen_c.specs.Exports.{copied, copied-record, copied-output, Copies, nothing-copied}
+use Rattle.bafirolen_c.specs.Exports.{wrote, copied-record, copied-output, Copies, nothing-copied}
 
 module _ (a : FoundAnswer) (r : BafirolenWritten) where
-  pub copied-there : (s n : ℕ) → a ≡ found.At s n → r ≡ copied 0 0 0 → r ≡ nothing-copied a
+  pub copied-there : (s n : ℕ) → a ≡ found.At s n → r ≡ wrote 0 0 0 → r ≡ nothing-copied a
   copied-there s n e f = f ∙ sym (ap nothing-copied e)
 
-  pub copied-refused : (q : Refusal) → a ≡ found.Refused q → r ≡ copied (q .number) (q .position) 0 → r ≡ nothing-copied a
+  pub copied-refused : (q : Refusal) → a ≡ found.Refused q → r ≡ wrote (q .number) (q .position) 0 → r ≡ nothing-copied a
   copied-refused q e f = f ∙ sym (ap nothing-copied e)
 
 filled-none : (l out : List ℕ) → length l ≡ 0 → out ≡ filled l out
@@ -39,12 +39,12 @@ module _ (out : List ℕ) where
       record { answer = rw (z, e); output = rw z (filled-none (v .bytes) out e) }
   empty (refused k p) e = record { answer = refl; output = refl }
 
-  short : (o : Answer Part) → (length (found-part o .bytes) ≡ 0 → ⊥) → length out < length (found-part o .bytes) → Copies o out out (copied 28 0 0)
+  short : (o : Answer Part) → (length (found-part o .bytes) ≡ 0 → ⊥) → length out < length (found-part o .bytes) → Copies o out out (wrote 28 0 0)
   short (accepted v t) h g = let z = lt-leb (length (v .bytes)) (length out) g in record { answer = rw z; output = rw z }
   short (refused k p) h g = absurd (h refl)
 
   whole : (o : Answer Part) → (length (found-part o .bytes) ≡ 0 → ⊥) → length (found-part o .bytes) ≤ length out
-      → Copies o out (filled (found-part o .bytes) out) (copied 0 0 (length (found-part o .bytes)))
+      → Copies o out (filled (found-part o .bytes) out) (wrote 0 0 (length (found-part o .bytes)))
   whole (accepted v t) h g = let z = le-leb (length (v .bytes)) (length out) g in record { answer = rw z; output = rw z }
   whole (refused k p) h g = absurd (h refl)
 
@@ -52,11 +52,11 @@ module _ (o : Answer Part) (lent given : RefT (List ℕ)) (is : PartOf lent give
   pub copies-none : length (given .now) ≡ 0 → (f : FoundAnswer) → f ≡ found-of o → r ≡ nothing-copied f → Copies o out out r
   copies-none e f g q = rw (q, g) (empty out o (rw (← is .bytes) e))
 
-  pub copies-28 : (length (given .now) ≡ 0 → ⊥) → length out < length (given .now) → r ≡ copied 28 0 0 → Copies o out out r
+  pub copies-28 : (length (given .now) ≡ 0 → ⊥) → length out < length (given .now) → r ≡ wrote 28 0 0 → Copies o out out r
   copies-28 h g q = rw q (short out o (rw (← is .bytes) h) (rw (← is .bytes) g))
 
   pub copies-all : (length (given .now) ≡ 0 → ⊥) → length (given .now) ≤ length out → (after : List ℕ) → after ≡ stored out 0 (bytes-at (given .now) 0 (length (given .now)))
-      → r ≡ copied 0 0 (length (given .now)) → Copies o out after r
+      → r ≡ wrote 0 0 (length (given .now)) → Copies o out after r
   copies-all h g after e q =
       let z : after ≡ filled (given .now) out = e ∙ ap (λ (l : List ℕ). stored out 0 l) (whole-bytes (given .now)) ∙ stored-first out (given .now) in
       rw (q, z, is .bytes) (whole out o (rw (← is .bytes) h) (rw (← is .bytes) g))

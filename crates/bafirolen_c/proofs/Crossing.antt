@@ -39,7 +39,7 @@ use Rattle.bafirolen_c.specs.declared.BafirolenAuth.{BafirolenAuth}
 use Rattle.bafirolen_c.specs.declared.BafirolenPlace.{BafirolenPlace}
 use Rattle.bafirolen_c.specs.declared.BafirolenWritten.{BafirolenWritten}
 use Rattle.bafirolen_c.specs.Asked.{which-asked, mode-asked, max-asked, request-asked}
-use Rattle.bafirolen_c.specs.Exports.{section-record, context-fields, keys-fields, auth-record, auth-fields, place-record, found-fields, written-record, write-fields, Writes}
+use Rattle.bafirolen_c.specs.Exports.{section-record, context-fields, keys-fields, auth-record, auth-fields, place-record, found-fields, wrote, written-record, write-fields, Writes}
 
 -- a number that is tested
 module _ {A : Type 0} (n k : ℕ) (x y : A) where
@@ -73,11 +73,11 @@ pub found-refused : (a : FoundAnswer) (q : Refusal) → a ≡ found.Refused q �
 found-refused a q e = sym (ap found-fields e)
 
 -- and written
-pub write-done : (a : WriteAnswer) (n : ℕ) → a ≡ write.Written n → record { number = 0; position = 0; length = n } ≡ write-fields a
-write-done a n e = sym (ap write-fields e)
+pub write-done : (a : WriteAnswer) (n : ℕ) → a ≡ write.Written n → (r : BafirolenWritten) → r ≡ wrote 0 0 n → r ≡ write-fields a
+write-done a n e r f = f ∙ sym (ap write-fields e)
 
-pub write-refused : (a : WriteAnswer) (q : Refusal) → a ≡ write.Refused q → record { number = q .number; position = q .position; length = 0 } ≡ write-fields a
-write-refused a q e = sym (ap write-fields e)
+pub write-refused : (a : WriteAnswer) (q : Refusal) → a ≡ write.Refused q → (r : BafirolenWritten) → r ≡ wrote (q .number) (q .position) 0 → r ≡ write-fields a
+write-refused a q e r f = f ∙ sym (ap write-fields e)
 
 -- the code's answer crosses as the definition's does
 context-as : (o : Answer (List PairAt)) → context-fields (context-of o) ≡ section-record o

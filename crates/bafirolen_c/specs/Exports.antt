@@ -118,13 +118,14 @@ abbrev pub found-fields : FoundAnswer → BafirolenPlace
 found-fields (found.At s n) = record { number = 0; position = 0; start = s; len = n }
 found-fields (found.Refused q) = record { number = q .number; position = q .position; start = 0; len = 0 }
 
--- a value that is copied; 28 where the output is too short for it
-abbrev pub copied : ℕ → ℕ → ℕ → BafirolenWritten
-copied k p n = record { number = k; position = p; length = n }
+-- what was written or copied: a number, a position, a length
+abbrev pub wrote : ℕ → ℕ → ℕ → BafirolenWritten
+wrote k p n = record { number = k; position = p; length = n }
 
+-- a value that is copied; 28 where the output is too short for it
 abbrev pub copied-record : Answer Part → List ℕ → BafirolenWritten
-copied-record (accepted v t) out = cond (leb (length (v .bytes)) (length out)) (copied 0 0 (length (v .bytes))) (copied 28 0 0)
-copied-record (refused k p) out = copied k p 0
+copied-record (accepted v t) out = cond (leb (length (v .bytes)) (length out)) (wrote 0 0 (length (v .bytes))) (wrote 28 0 0)
+copied-record (refused k p) out = wrote k p 0
 
 abbrev pub copied-output : Answer Part → List ℕ → List ℕ
 copied-output (accepted v t) out = cond (leb (length (v .bytes)) (length out)) (filled (v .bytes) out) out
@@ -136,17 +137,17 @@ pub record Copies (o : Answer Part) (before after : List ℕ) (r : BafirolenWrit
 
 -- where there is nothing to copy
 abbrev pub nothing-copied : FoundAnswer → BafirolenWritten
-nothing-copied (found.At s n) = copied 0 0 0
-nothing-copied (found.Refused q) = copied (q .number) (q .position) 0
+nothing-copied (found.At s n) = wrote 0 0 0
+nothing-copied (found.Refused q) = wrote (q .number) (q .position) 0
 
 -- what was written
 abbrev pub written-record : Answer (Unit {0}) → BafirolenWritten
-written-record (accepted u n) = record { number = 0; position = 0; length = n }
-written-record (refused k p) = record { number = k; position = p; length = 0 }
+written-record (accepted u n) = wrote 0 0 n
+written-record (refused k p) = wrote k p 0
 
 abbrev pub write-fields : WriteAnswer → BafirolenWritten
-write-fields (write.Written n) = record { number = 0; position = 0; length = n }
-write-fields (write.Refused q) = record { number = q .number; position = q .position; length = 0 }
+write-fields (write.Written n) = wrote 0 0 n
+write-fields (write.Refused q) = wrote (q .number) (q .position) 0
 
 -- the contract of every writer: what it answers, and what the output holds afterwards
 pub record Writes (w : Writing) (before after : List ℕ) (r : BafirolenWritten) : Type 0 where

@@ -1,13 +1,14 @@
 // Finding a value, and copying it.
 use crate::BafirolenPlace;
 use crate::BafirolenWritten;
+use crate::writers::wrote;
 use context::FoundAnswer;
 use wire::refusals;
 use wire::writing::put_bytes;
 ghost use mathlib.Core.Path.{_≡_};
 ghost use Rattle.format.specs.Read.{operation};
 ghost use Rattle.format.specs.Context.{find-value};
-ghost use Rattle.bafirolen_c.specs.Exports.{place-record, found-fields, copied, Copies, nothing-copied};
+ghost use Rattle.bafirolen_c.specs.Exports.{place-record, found-fields, Copies, nothing-copied};
 
 fn place_record(a: FoundAnswer) -> BafirolenPlace
     ensures { λ r. ⌜ r ≡ found-fields a ⌝ }
@@ -36,26 +37,12 @@ pub extern "C" fn bafirolen_find_value(m: &[u8], start: u64, key: &[u8]) -> Bafi
     place_record(context::find_value(m, start, key))
 }
 
-fn copied(number: u8, length: u64) -> BafirolenWritten
-    ensures { λ r. ⌜ r ≡ copied number 0 length ⌝ }
-{
-    BafirolenWritten {
-        number: number as u64,
-        position: 0,
-        length,
-    }
-}
-
 fn nothing_copied(a: FoundAnswer) -> BafirolenWritten
     ensures { λ r. ⌜ r ≡ nothing-copied a ⌝ }
 {
     match a {
-        FoundAnswer::At { start: _, len: _ } => copied(0, 0),
-        FoundAnswer::Refused(q) => BafirolenWritten {
-            number: q.number as u64,
-            position: q.position,
-            length: 0,
-        },
+        FoundAnswer::At { start: _, len: _ } => wrote(0, 0, 0),
+        FoundAnswer::Refused(q) => wrote(q.number, q.position, 0),
     }
 }
 
@@ -75,8 +62,8 @@ pub extern "C" fn bafirolen_copy_value(
         return nothing_copied(context::find_value(m, start, key));
     }
     if out.len() < n {
-        return copied(refusals::OUTPUT_TOO_SHORT, 0);
+        return wrote(refusals::OUTPUT_TOO_SHORT, 0, 0);
     }
     put_bytes(value, 0, n, out, 0);
-    copied(0, n as u64)
+    wrote(0, 0, n as u64)
 }

@@ -5,22 +5,24 @@ use fields::BodyNumbers;
 ghost use mathlib.Core.Path.{_≡_};
 ghost use Rattle.format.specs.Lent.{writing-aad-section, writing-encrypted-data-keys-section, writing-header-auth-tag, writing-header-body};
 ghost use Rattle.body_write.specs.Lent.{body-to-write};
-ghost use Rattle.bafirolen_c.specs.Exports.{Writes, write-fields};
+ghost use Rattle.bafirolen_c.specs.Exports.{Writes, wrote, write-fields};
+
+pub fn wrote(number: u8, position: u64, length: u64) -> BafirolenWritten
+    ensures { λ r. ⌜ r ≡ wrote number position length ⌝ }
+{
+    BafirolenWritten {
+        number: number as u64,
+        position,
+        length,
+    }
+}
 
 pub fn written_record(a: WriteAnswer) -> BafirolenWritten
     ensures { λ r. ⌜ r ≡ write-fields a ⌝ }
 {
     match a {
-        WriteAnswer::Written(n) => BafirolenWritten {
-            number: 0,
-            position: 0,
-            length: n as u64,
-        },
-        WriteAnswer::Refused(q) => BafirolenWritten {
-            number: q.number as u64,
-            position: q.position,
-            length: 0,
-        },
+        WriteAnswer::Written(n) => wrote(0, 0, n as u64),
+        WriteAnswer::Refused(q) => wrote(q.number, q.position, 0),
     }
 }
 

@@ -66,13 +66,12 @@ pub fn read_body(message: &[u8], pairs: &mut [u32], keys: &mut [u32]) -> u64 {
 
 #[inline]
 pub fn write_body(fields: &Fields, lent: &Lent, out: &mut [u8]) -> u64 {
-    let mut numbers = Numbers::default();
-    numbers.version = fields.version;
-    numbers.message_type = fields.message_type;
-    numbers.suite = fields.suite;
-    numbers.content_type = fields.content_type;
-    numbers.header_iv_length = fields.iv_length;
-    numbers.frame_length = fields.frame_length;
+    let (suite, content_type, frame_length) =
+        (fields.suite, fields.content_type, fields.frame_length);
+    let numbers = match fields.version {
+        1 => Numbers::version_1(suite, content_type, frame_length),
+        _ => Numbers::version_2(suite, content_type, frame_length),
+    };
     let draft = Draft::new(numbers, &fields.id)
         .with_suite_data(&fields.suite_data)
         .with_tables(&lent.text, &lent.pairs, &lent.keys);

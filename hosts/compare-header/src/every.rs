@@ -3,9 +3,9 @@
 use crate::answers::Answers;
 use crate::expected::parts_are;
 use crate::numbers::{numbers, Answer};
-use crate::writes::{self, BodyLent};
+use crate::writes;
 use crate::{reads, requests};
-use bafirolen::Mode;
+use bafirolen::{Draft, Mode};
 use generator::fields::{back, front, Fields};
 use generator::image::{self, pairs_length, section_with, Form, Image};
 use generator::large::plain;
@@ -19,14 +19,9 @@ pub const USES_OF_KEYS: u64 = 1 + 1 + 2 * 5;
 
 /// Writes fields whose pairs and keys are lent by tables.
 pub fn write_body(fields: &Fields, lent: &Lent, out: &[u8]) -> (Answer<usize>, Vec<u8>) {
-    let lent = BodyLent {
-        numbers: numbers(&fields.numbers().into()),
-        message_id: &fields.id,
-        suite_data: &fields.suite_data,
-        text: &lent.text,
-        pairs: &lent.pairs,
-        keys: &lent.keys,
-    };
+    let lent = Draft::new(numbers(&fields.numbers().into()), &fields.id)
+        .with_suite_data(&fields.suite_data)
+        .with_tables(&lent.text, &lent.pairs, &lent.keys);
     writes::write_header_body(lent, out)
 }
 

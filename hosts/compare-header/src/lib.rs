@@ -18,7 +18,7 @@ pub mod scale;
 pub mod writes;
 
 use bafirolen::{Mode, Request, Which};
-pub use report::{compared, Coverage};
+pub use report::{compared, Coverage, BODY_READERS};
 
 pub const fn request(which: Which, mode: Mode, max: Option<u64>) -> Request {
     // Field by field, since a request may get more of them.

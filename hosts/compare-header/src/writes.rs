@@ -4,37 +4,13 @@ use crate::guarded::Guarded;
 use crate::kept::Kept;
 use crate::numbers::{refused, their_numbers, Answer};
 use crate::reads::few;
-use bafirolen::{Draft, Numbers, Refusal};
+use bafirolen::{Draft, Refusal};
 
-/// What a body writer is lent beside the output.
-#[derive(Clone, Copy, Debug)]
-pub struct BodyLent<'a> {
-    pub numbers: Numbers,
-    pub message_id: &'a [u8],
-    pub suite_data: &'a [u8],
-    pub text: &'a [u8],
-    pub pairs: &'a [u32],
-    pub keys: &'a [u32],
-}
-
-impl<'a> BodyLent<'a> {
-    fn draft(&self) -> Draft<'a> {
-        Draft::new(self.numbers, self.message_id)
-            .with_suite_data(self.suite_data)
-            .with_tables(self.text, self.pairs, self.keys)
-    }
-
-    /// The fronts of what is lent, as a failure shows them.
-    fn shown(&self) -> Self {
-        BodyLent {
-            numbers: self.numbers,
-            message_id: few(self.message_id),
-            suite_data: few(self.suite_data),
-            text: few(self.text),
-            pairs: few(self.pairs),
-            keys: few(self.keys),
-        }
-    }
+/// A draft with the fronts of what it lends, as a failure shows it.
+fn shown<'a>(draft: &Draft<'a>) -> Draft<'a> {
+    Draft::new(draft.numbers, few(draft.message_id))
+        .with_suite_data(few(draft.suite_data))
+        .with_tables(few(draft.text), few(draft.pairs), few(draft.keys))
 }
 
 /// The answers, and the outputs and what is lent beside them afterwards; gives
@@ -119,21 +95,21 @@ pub fn write_listing(message: &[u8], out: &[u8]) -> (Answer<usize>, Vec<u8>) {
     )
 }
 
-pub fn write_header_body(lent: BodyLent, out: &[u8]) -> (Answer<usize>, Vec<u8>) {
-    let bytes = [lent.message_id, lent.suite_data, lent.text];
+pub fn write_header_body(draft: Draft, out: &[u8]) -> (Answer<usize>, Vec<u8>) {
+    let bytes = [draft.message_id, draft.suite_data, draft.text];
     both(
         out,
-        (bytes, [lent.pairs, lent.keys]),
-        || format!("{:02X?}", lent.shown()),
-        |out| bafirolen::write_header_body(&lent.draft(), out),
+        (bytes, [draft.pairs, draft.keys]),
+        || format!("{:02X?}", shown(&draft)),
+        |out| bafirolen::write_header_body(&draft, out),
         |out| {
             reference::write_header_body(
-                &their_numbers(lent.numbers),
-                lent.message_id,
-                lent.suite_data,
-                lent.text,
-                lent.pairs,
-                lent.keys,
+                &their_numbers(draft.numbers),
+                draft.message_id,
+                draft.suite_data,
+                draft.text,
+                draft.pairs,
+                draft.keys,
                 out,
             )
         },

@@ -5,7 +5,7 @@ use bafirolen::{Mode, Request, Which};
 use compare_header::expected::{as_expected, parts_are};
 use compare_header::numbers::number;
 use compare_header::scale::seeds;
-use compare_header::{compared, reads, request, Coverage};
+use compare_header::{compared, reads, request, Coverage, BODY_READERS};
 use generator::auth_cases::auth_case;
 use generator::body_cases::{body_case, BodyCase, Reader};
 use generator::key_cases::key_case;
@@ -119,14 +119,7 @@ fn bodies() {
         }
     }
     coverage.print();
-    coverage.assert_complete([
-        "read body tolerant",
-        "read body strict",
-        "read body v1 tolerant",
-        "read body v1 strict",
-        "read body v2 tolerant",
-        "read body v2 strict",
-    ]);
+    coverage.assert_complete(BODY_READERS);
     compared(count, "reads of bodies");
 }
 

@@ -1,10 +1,11 @@
 //! The writers on generated requests. Each refusal that an operation lists
 //! has to come about.
 
+use bafirolen::Draft;
 use compare_header::expected::as_expected;
 use compare_header::numbers::{number, numbers, Answer};
 use compare_header::scale::seeds;
-use compare_header::writes::{self, BodyLent};
+use compare_header::writes;
 use compare_header::{compared, Coverage};
 use generator::auth_cases::auth_write_case;
 use generator::body_cases::body_case;
@@ -60,14 +61,9 @@ fn bodies() {
     for seed in seeds(1_000_000) {
         let case = body_write_case(seed);
         let fields = &case.fields;
-        let lent = BodyLent {
-            numbers: numbers(&fields.numbers().into()),
-            message_id: &fields.id,
-            suite_data: &fields.suite_data,
-            text: &case.lent.text,
-            pairs: &case.lent.pairs,
-            keys: &case.lent.keys,
-        };
+        let lent = Draft::new(numbers(&fields.numbers().into()), &fields.id)
+            .with_suite_data(&fields.suite_data)
+            .with_tables(&case.lent.text, &case.lent.pairs, &case.lent.keys);
         let answer = writes::write_header_body(lent, &case.out);
         coverage.count("write body", number(&answer.0));
         image_is(seed, &answer, case.expected, &case.image);

@@ -1,10 +1,9 @@
 //! What is written is read again, and what is read is written again.
 
-use bafirolen::{Numbers, Request};
+use bafirolen::{Draft, Numbers, Request};
 use compare_header::expected::parts_are;
 use compare_header::numbers::numbers;
 use compare_header::scale::seeds;
-use compare_header::writes::BodyLent;
 use compare_header::{compared, reads, requests, writes};
 use generator::fields::{fields, Fields};
 use generator::image::Form;
@@ -24,14 +23,9 @@ fn written_then_read() {
         let lent = lend(random, &fields.pairs, &fields.keys);
         let image = fields.image(Form::Today).bytes;
         let room = image.len() + random.index(5);
-        let request = BodyLent {
-            numbers: stored(&fields),
-            message_id: &fields.id,
-            suite_data: &fields.suite_data,
-            text: &lent.text,
-            pairs: &lent.pairs,
-            keys: &lent.keys,
-        };
+        let request = Draft::new(stored(&fields), &fields.id)
+            .with_suite_data(&fields.suite_data)
+            .with_tables(&lent.text, &lent.pairs, &lent.keys);
         let (answer, out) = writes::write_header_body(request, &random.bytes(room));
         assert_eq!(answer, Ok(image.len()), "seed {seed}");
         assert!(out[..image.len()] == image, "seed {seed}");
@@ -80,14 +74,9 @@ fn read_then_written() {
                 let part = place.within(&message);
                 part.expect("a part that was read")
             };
-            let lent = BodyLent {
-                numbers: body.numbers,
-                message_id: part(body.message_id),
-                suite_data: part(body.suite_data),
-                text: &message,
-                pairs: &tables.pairs,
-                keys: &tables.keys,
-            };
+            let lent = Draft::new(body.numbers, part(body.message_id))
+                .with_suite_data(part(body.suite_data))
+                .with_tables(&message, &tables.pairs, &tables.keys);
             let today = fields.image(Form::Today).bytes;
             let (answer, out) = writes::write_header_body(lent, &vec![0; today.len()]);
             assert_eq!(answer, Ok(today.len()), "seed {seed}");

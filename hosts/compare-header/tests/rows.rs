@@ -1,9 +1,9 @@
 //! The rows that are written by hand, held against ours and the separate
 //! implementation: what both answered is what the row has.
 
-use bafirolen::{Mode, Which};
+use bafirolen::{Draft, Mode, Which};
 use compare_header::numbers::{answered, numbers, Answer};
-use compare_header::writes::{self, BodyLent};
+use compare_header::writes;
 use compare_header::{compared, reads, request};
 use generator::rows::{header_writes, headers, listings, records, section_writes, sections, sizes};
 use generator::rows::{Asked, Body, Codec, Lent, Place, Record, Refused, Section, Written};
@@ -131,14 +131,9 @@ impl Codec for Both {
     }
 
     fn write_body(&self, lent: Lent, out: &mut [u8]) -> Written {
-        let lent = BodyLent {
-            numbers: numbers(&reference::Numbers::from(lent.numbers)),
-            message_id: lent.id,
-            suite_data: lent.suite_data,
-            text: lent.text,
-            pairs: lent.pairs,
-            keys: lent.keys,
-        };
+        let lent = Draft::new(numbers(&reference::Numbers::from(lent.numbers)), lent.id)
+            .with_suite_data(lent.suite_data)
+            .with_tables(lent.text, lent.pairs, lent.keys);
         written(writes::write_header_body(lent, out), out)
     }
 

@@ -1,9 +1,10 @@
 //! A text longer than 32 bits can count, and parts that lie across that bound:
 //! start and length are 32-bit numbers, their sum is inside the text.
 
+use bafirolen::Draft;
 use compare_header::answers::Answers;
 use compare_header::numbers::numbers;
-use compare_header::writes::{self, BodyLent};
+use compare_header::writes;
 use generator::image::{keys, section, Form};
 use generator::large::{plain, zeros};
 use generator::{Key, Pair};
@@ -63,15 +64,10 @@ fn write_keys(answers: &mut Answers, text: &[u8], table: &[u32], wanted: u32) {
 fn write_bodies(answers: &mut Answers, text: &[u8], pairs: &[u32], keys: &[u32], wanted: u32) {
     for version in [1, 2] {
         let mut fields = plain(version);
-        let lent = BodyLent {
-            numbers: numbers(&fields.numbers().into()),
-            message_id: &fields.id,
-            suite_data: &fields.suite_data,
-            text,
-            pairs,
-            keys,
-        };
-        let (answer, out) = writes::write_header_body(lent, &[0x11; 1_000]);
+        let draft = Draft::new(numbers(&fields.numbers().into()), &fields.id)
+            .with_suite_data(&fields.suite_data)
+            .with_tables(text, pairs, keys);
+        let (answer, out) = writes::write_header_body(draft, &[0x11; 1_000]);
         answers.met(&answer, wanted);
         if wanted == 0 {
             fields.pairs = pairs_at(text, pairs);

@@ -65,6 +65,16 @@ pub const LISTED: [(&str, &[u32]); 16] = [
     ("write listing", &[28]),
 ];
 
+/// The operations that read a body.
+pub const BODY_READERS: [&str; 6] = [
+    "read body tolerant",
+    "read body strict",
+    "read body v1 tolerant",
+    "read body v1 strict",
+    "read body v2 tolerant",
+    "read body v2 strict",
+];
+
 /// The list of one operation.
 pub fn listed(operation: &str) -> &'static [u32] {
     let list = LISTED.iter().find(|(name, _)| *name == operation);

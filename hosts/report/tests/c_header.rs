@@ -1,7 +1,7 @@
 //! The C header says of each function what the comparisons hold its
 //! operations to. (That its words are README's, a test in C says.)
 
-use report::{assert_said, listed};
+use report::{assert_said, listed, BODY_READERS};
 
 const HEADER: &str = include_str!("../../../include/bafirolen.h");
 const REFUSALS: &str = include_str!("../../../include/bafirolen_refusals.h");
@@ -24,17 +24,7 @@ fn the_numbers_of_refusals() {
 /// Each function that refuses, and the operations that its list is of.
 const FUNCTIONS: [(&str, &[&str]); 12] = [
     ("bafirolen_header_number", &["read body tolerant"]),
-    (
-        "bafirolen_read_header_body",
-        &[
-            "read body tolerant",
-            "read body strict",
-            "read body v1 tolerant",
-            "read body v1 strict",
-            "read body v2 tolerant",
-            "read body v2 strict",
-        ],
-    ),
+    ("bafirolen_read_header_body", &BODY_READERS),
     (
         "bafirolen_read_aad_section",
         &["read section tolerant", "read section strict"],

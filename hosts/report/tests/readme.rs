@@ -1,7 +1,7 @@
 //! The README's table of refusals says what the comparisons hold every
 //! operation to.
 
-use report::LISTED;
+use report::{BODY_READERS, LISTED};
 use std::collections::BTreeSet;
 
 const README: &str = include_str!("../../../README.md");
@@ -10,17 +10,7 @@ const README: &str = include_str!("../../../README.md");
 const COLUMNS: [(&str, &[&str]); 10] = [
     ("context", &["read section tolerant", "read section strict"]),
     ("keys", &["read keys"]),
-    (
-        "body",
-        &[
-            "read body tolerant",
-            "read body strict",
-            "read body v1 tolerant",
-            "read body v1 strict",
-            "read body v2 tolerant",
-            "read body v2 strict",
-        ],
-    ),
+    ("body", &BODY_READERS),
     ("record", &["read auth"]),
     ("find", &["find"]),
     ("write context", &["write section"]),

@@ -4,7 +4,7 @@ use super::every_pair::{number_of, read, Listed, Names};
 use super::sections::{self, key_table, pair_table, too_large, Faults};
 use bafirolen::{Mode, Which};
 use compare_header::numbers::answered;
-use compare_header::{reads, request, Coverage};
+use compare_header::{reads, request, Coverage, BODY_READERS};
 use generator::faults::{Area, ReadDraft};
 
 /// A reader and the version of what it is given.
@@ -105,7 +105,7 @@ fn bodies() {
             answered(&reads::read_header_body(&d.message(), d.start, asked, &pairs, &keys).0)
         });
     }
-    answers.assert_complete(READERS.map(|reader| reader.0));
+    answers.assert_complete(BODY_READERS);
 }
 
 /// A host is told what the tolerant reader of either version answers, with no

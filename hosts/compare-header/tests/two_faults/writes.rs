@@ -2,8 +2,9 @@
 //! and the listing.
 
 use super::every_pair::{record, write, Fault, Listed, Names};
+use bafirolen::Draft;
 use compare_header::numbers::{answered, numbers};
-use compare_header::writes::{self, BodyLent};
+use compare_header::writes;
 use compare_header::Coverage;
 use generator::faults::{ReadDraft, RecordDraft, WriteDraft};
 
@@ -164,14 +165,9 @@ fn written_bodies() {
     let mut answers = Coverage::default();
     for version in [1, 2] {
         body(version).every_pair(&mut answers, |d| {
-            let lent = BodyLent {
-                numbers: numbers(&reference::Numbers::from(d.numbers)),
-                message_id: &d.id,
-                suite_data: &d.suite_data,
-                text: &d.text,
-                pairs: &d.pairs,
-                keys: &d.keys,
-            };
+            let lent = Draft::new(numbers(&reference::Numbers::from(d.numbers)), &d.id)
+                .with_suite_data(&d.suite_data)
+                .with_tables(&d.text, &d.pairs, &d.keys);
             answered(&writes::write_header_body(lent, &vec![0xEE; d.room]).0)
         });
     }
