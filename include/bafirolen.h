@@ -42,11 +42,13 @@
  * writers' comments say how long an output has to be. The two calls and the listing have tables of their own; where these are too
  * short, call bafirolen_read_header_body.
  * Every other: neither more bytes nor more room change it. From a reader: reject the message (4, 15 and 21 depend on what you
- * asked for). From a writer: correct the fields. BAFIROLEN_REFUSED_NOT_FOUND: the context is good and lacks this key.
+ * asked for). From a writer: correct the fields, or with 31 the required table; bafirolen_write_only_authenticated is a writer
+ * with 31 and 28, and a reader with all others. BAFIROLEN_REFUSED_NOT_FOUND: the context is good and lacks this key.
  *
  * Names are those of the AWS Encryption SDK's message format: a header has an encryption context (pairs of key and value) and
  * encrypted data keys (key provider ID, key provider info, ciphertext); "key" alone is either, by where it stands. Pairs and keys
- * keep their order: nothing is sorted, and no order is tested. A header may have no pair, and may have no key.
+ * keep their order: no order is tested, and nothing is sorted, but for what bafirolen_write_only_authenticated writes. A header
+ * may have no pair, and may have no key.
  */
 #ifndef BAFIROLEN_H
 #define BAFIROLEN_H
@@ -65,7 +67,7 @@ extern "C" {
  * The version of these declarations, which grows by one with each change of them. bafirolen_version gives that of the archive:
  * where the two differ, the archive was made for another header file than this.
  */
-#define BAFIROLEN_VERSION 1
+#define BAFIROLEN_VERSION 2
 uint32_t bafirolen_version(void);
 
 /*
@@ -74,10 +76,11 @@ uint32_t bafirolen_version(void);
  * also takes what the dynamic linker takes, for which these figures leave some room. bafirolen_version takes less than
  * BAFIROLEN_STACK_KEYS.
  */
-#define BAFIROLEN_STACK_READ 40960   /* read a context section or a body; find and copy a value */
-#define BAFIROLEN_STACK_KEYS 1024    /* read and write a key section or an authentication record */
-#define BAFIROLEN_STACK_LISTED 73728 /* the number, the position, the listing: their tables lie on the stack */
-#define BAFIROLEN_STACK_WRITE 143360 /* write a context section or a body */
+#define BAFIROLEN_STACK_READ 40960               /* read a context section or a body; find and copy a value */
+#define BAFIROLEN_STACK_KEYS 1024                /* read and write a key section or an authentication record */
+#define BAFIROLEN_STACK_ONLY_AUTHENTICATED 65536 /* write the pairs of required keys, whose order lies on the stack */
+#define BAFIROLEN_STACK_LISTED 73728             /* the number, the position, the listing: their tables lie on the stack */
+#define BAFIROLEN_STACK_WRITE 143360             /* write a context section or a body */
 
 /*
  * THE TWO CALLS. The header body at `start` in one number: 0 where it is accepted, else the refusal; and its position: the tail
@@ -198,6 +201,22 @@ BafirolenWritten bafirolen_write_header_body(BafirolenNumbers numbers, const uin
                                              const uint8_t *suite_data, size_t suite_data_len, const uint8_t *text,
                                              size_t text_len, const uint32_t *pairs, size_t pairs_len, const uint32_t *keys,
                                              size_t keys_len, uint8_t *out, size_t out_len);
+
+/*
+ * Writes what a station authenticates without storing it: of the context section at `start`, read tolerantly, the pairs with the
+ * required keys, sorted by the bytes of their keys, ascending; a key that begins another comes first. Where no pair has such a key
+ * nothing is written, and the length is 0. Otherwise the count of those pairs is written, in 2 bytes, then each pair as its
+ * section has it; no length stands in front. For a body that was accepted bafirolen_context_start gives the start.
+ * required: start and length of each key, places of `text`. The keys may be any bytes and stand in any order; one that no pair
+ * has, or that is named twice, changes nothing. All numbers are taken: zeros at the end of a longer table are the empty key.
+ * out: what is written takes 2 bytes, 4 for each pair, and its parts. It is never longer than what the section's length says, nor
+ * than 65,535 bytes: an output of either length, or as long as the whole section, is never too short.
+ * Refuses: 1 2 8 9 10 11 12 13 14 31 28.
+ * Stack: BAFIROLEN_STACK_ONLY_AUTHENTICATED.
+ */
+BafirolenWritten bafirolen_write_only_authenticated(const uint8_t *message, size_t message_len, uint64_t start,
+                                                    const uint8_t *text, size_t text_len, const uint32_t *required,
+                                                    size_t required_len, uint8_t *out, size_t out_len);
 
 /*
  * LISTING. Writes, as a writer does, the header at the first byte of the message as text; the listing program of the repository

@@ -39,7 +39,8 @@ enum BafirolenRefusal {
     BAFIROLEN_REFUSED_COUNT_OR_PART_TOO_LONG = 27,
     BAFIROLEN_REFUSED_OUTPUT_TOO_SHORT = 28,
     BAFIROLEN_REFUSED_NOT_FOUND = 29,
-    BAFIROLEN_REFUSED_TAG_LENGTH = 30
+    BAFIROLEN_REFUSED_TAG_LENGTH = 30,
+    BAFIROLEN_REFUSED_REQUIRED_TABLE_OR_PLACE = 31
 };
 
 /* A refusal in words. Any other number has the words for unknown ones. */
@@ -77,6 +78,7 @@ static inline const char *bafirolen_refusal_text(uint64_t number)
         "output too short",
         "no pair has the key",
         "tag not 16 bytes",
+        "required table of odd length, or a place outside its text",
     };
     return number < sizeof texts / sizeof *texts ? texts[number] : "unknown refusal";
 }

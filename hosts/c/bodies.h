@@ -25,6 +25,7 @@ static struct body {
     size_t length, context, keys;
     uint32_t last_key; /* the place of the last pair's key, of two bytes */
     uint32_t pair_table[4 * MOST_PAIRS], key_table[6 * MOST_KEYS];
+    uint32_t required[2 * MOST_PAIRS]; /* the places of the pairs' keys alone */
 } body;
 
 static inline void put(const void *bytes, size_t n)
@@ -70,6 +71,7 @@ static inline void put_context(struct shape s)
             key[1] = (uint8_t)(k % 128);
         }
         put_entry(key, 2, body.pair_table + 4 * i);
+        memcpy(body.required + 2 * i, body.pair_table + 4 * i, 2 * sizeof *body.required);
         put_entry(value + (s.fault == BAD_VALUE && i + 1 == s.pairs), s.pairs < 9000, body.pair_table + 4 * i + 2);
     }
     body.last_key = body.pair_table[4 * (s.pairs - 1)];

@@ -99,4 +99,11 @@ static void write_body(void)
                                     out_len);
 }
 
+/* every pair's key is required, so that every pair is sorted and written */
+static void write_only_authenticated(void)
+{
+    lent->answer.written = bafirolen_write_only_authenticated(body.bytes, body.length, body.context, body.bytes, body.length,
+                                                              body.required, 2 * shape.pairs, lent->out, out_len);
+}
+
 #endif

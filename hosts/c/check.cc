@@ -1,7 +1,7 @@
 /*
  * A host in C++: bafirolen.h is included twice, what is empty is lent as an empty vector has it; header H is read, its pairs and
- * keys are gone through, and it is written again. Writes `compared N cases`; a difference is written to standard error, and the
- * exit status is 1.
+ * keys are gone through, it is written again, and what is authenticated of its context is written alone. Writes `compared N
+ * cases`; a difference is written to standard error, and the exit status is 1.
  *
  *     rt staticlib bafirolen_c
  *     g++ -std=c++11 -O2 -Wall -Wextra -Wpedantic -Iinclude hosts/c/check.cc target/staticlib/libbafirolen_c.a -o target/check
@@ -93,6 +93,22 @@ void empty_vectors()
     w = bafirolen_write_aad_section(message.data(), 0, pairs.data(), 0, out.data(), out.size());
     same("no pairs", w.number == 0 && w.position == 0 && w.length == 2, true);
     same("no pairs' bytes", out, Bytes(2));
+    w = bafirolen_write_only_authenticated(H.data(), H.size(), 20, message.data(), 0, pairs.data(), 0, out.data(), out.size());
+    same("no required key", w.number == 0 && w.position == 0 && w.length == 0, true);
+}
+
+/* into an output as long as the section, which is cut to what was written */
+void only_authenticated()
+{
+    const std::string text = "speakerlang";
+    const Table required = {0, 7, 7, 4};
+    Bytes out(14);
+    const BafirolenWritten w = bafirolen_write_only_authenticated(H.data(), H.size(), 20,
+                                                                  reinterpret_cast<const uint8_t *>(text.data()), text.size(),
+                                                                  required.data(), required.size(), out.data(), out.size());
+    same("what is authenticated", w.number == 0 && w.position == 0 && w.length == 12, true);
+    out.resize(w.length);
+    same("its bytes", out, Bytes(H.begin() + 22, H.begin() + 34));
 }
 
 } // namespace
@@ -101,8 +117,9 @@ int main()
 {
     same("the version of the declarations", bafirolen_version(), uint32_t(BAFIROLEN_VERSION));
     same("the text of a refusal", std::string(bafirolen_refusal_text(BAFIROLEN_REFUSED_NOT_FOUND)), "no pair has the key");
-    same("the text of no refusal", std::string(bafirolen_refusal_text(31)), "unknown refusal");
+    same("the text of no refusal", std::string(bafirolen_refusal_text(32)), "unknown refusal");
     read_and_write_again();
+    only_authenticated();
     empty_vectors();
     std::cout << "compared " << cases << " cases\n" << std::flush;
     return differences == 0 && std::cout ? 0 : 1;

@@ -1,6 +1,6 @@
 /*
- * A host in C: calls every exported operation that writes, and the reader of authentication records beside its writer; as
- * check_readers.c does for what reads.
+ * A host in C: calls every exported operation that writes but one, and the reader of authentication records beside its writer; as
+ * check_readers.c does for what reads. check_only_authenticated.c has the one that reads a message and writes.
  */
 #include "compare.h"
 

@@ -92,7 +92,7 @@ static inline void output_is(const char *what, const uint8_t *front, size_t n)
     same_bytes(what, out + n, fresh_bytes + n, BYTES - n);
 }
 
-/* a writer gives no position but 0; a copy that lacks bytes does */
+/* a writer gives no position but 0, unless it reads a message: one that lacks bytes, as a copy may, gives theirs */
 static inline void written_at(const char *what, BafirolenWritten w, uint64_t number, uint64_t position, uint64_t length)
 {
     same(what, w.number, number);

@@ -122,6 +122,23 @@ static void read_parts(const uint8_t *m, size_t n, uint64_t start, size_t np, si
     let_go();
 }
 
+/* what is authenticated of the context section at a start, for the keys "ab" and "a", into exactly its length */
+static void authenticate(const uint8_t *m, size_t n, uint64_t start)
+{
+    static const uint8_t text[2] = {'a', 'b'};
+    static const uint32_t required[4] = {0, 2, 0, 1};
+    BafirolenWritten exact, roomy;
+    uint8_t *o;
+    fresh();
+    roomy = bafirolen_write_only_authenticated(m, n, start, text, 2, required, 4, out, BYTES);
+    o = lend(fresh_bytes, roomy.length);
+    exact = bafirolen_write_only_authenticated(lend_const(m, n), n, start, lend_const(text, 2), 2,
+                                               lend_const(required, sizeof required), 4, o, roomy.length);
+    same_bytes("what is authenticated", &exact, &roomy, sizeof exact);
+    same_bytes("its bytes", o, out, roomy.length);
+    let_go();
+}
+
 /* every cut of a header that has np pairs and nk keys, with tables that just hold them and tables that just don't */
 static void read_cuts(const uint8_t *m, size_t n, size_t np, size_t nk)
 {
@@ -134,6 +151,7 @@ static void read_cuts(const uint8_t *m, size_t n, size_t np, size_t nk)
         read_body(m, cut, BAFIROLEN_EITHER, BAFIROLEN_STRICT, 0, 0);
         for (start = 0; start <= cut + 1; start++) {
             read_parts(m, cut, start, 4 * np, 6 * nk);
+            authenticate(m, cut, start);
         }
     }
 }
@@ -175,7 +193,7 @@ static void holds(const char *what, BafirolenWritten w, uint8_t *o, size_t room,
     memset(o, KEPT, room);
 }
 
-/* a context section, a key section, a record and a listing at every room up to their lengths */
+/* a context section, what is authenticated of it, a key section, a record and a listing at every room up to their lengths */
 static void write_parts(void)
 {
     static const uint8_t record[28] = {1,  2,  3,  4,  5,  6,  7,  8,  9,  10, 11, 12, 13, 14,
@@ -190,6 +208,8 @@ static void write_parts(void)
         text = lend_const(H, 58);
         w = bafirolen_write_aad_section(text, 58, lend_const(H_pairs, sizeof H_pairs), 4, o, room);
         holds("a context section", w, o, room, H + 20, 14);
+        w = bafirolen_write_only_authenticated(text, 58, 20, text, 58, lend_const(H_pairs, 2 * sizeof *H_pairs), 2, o, room);
+        holds("what is authenticated", w, o, room, H + 22, 12);
         w = bafirolen_write_encrypted_data_keys_section(text, 58, lend_const(H_keys, sizeof H_keys), 6, o, room);
         holds("a key section", w, o, room, H + 34, 14);
         w = bafirolen_write_header_auth_tag(0x0014, lend_const(record, 12), 12, lend_const(record + 12, 16), 16, o, room);

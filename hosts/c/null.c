@@ -119,6 +119,14 @@ static void write_body(void)
         LENT(1, h->pair_table, h->pair_numbers), LENT(5, h->key_table, h->key_numbers), LENT(2, out, BYTES));
 }
 
+/* the key to find is all that is required */
+static void write_only_authenticated(void)
+{
+    const uint32_t required[2] = {0, (uint32_t)strlen(h->key)};
+    answer.record.written = bafirolen_write_only_authenticated(MESSAGE, h->context, LENT(1, h->key, strlen(h->key)),
+                                                               LENT(2, required, COUNT(required)), LENT(3, out, BYTES));
+}
+
 static const struct export {
     const char *name;
     void (*call)(void);
@@ -135,7 +143,8 @@ static const struct export {
                {"bafirolen_write_aad_section", write_context, 3},
                {"bafirolen_write_encrypted_data_keys_section", write_keys, 3},
                {"bafirolen_write_header_auth_tag", write_record, 3},
-               {"bafirolen_write_header_body", write_body, 6}};
+               {"bafirolen_write_header_body", write_body, 6},
+               {"bafirolen_write_only_authenticated", write_only_authenticated, 4}};
 
 /* the call with those parts empty by that pointer: its answer, and what it was lent afterwards */
 static void ask(void (*call)(void), unsigned parts, void *pointer)
@@ -224,6 +233,23 @@ static void writers(void)
     output_is("a bare header", BARE, 34);
 }
 
+static void required_keys(void)
+{
+    static const uint32_t lang[2] = {0, 4}, none[2] = {0, 0};
+    BafirolenWritten w;
+    w = bafirolen_write_only_authenticated(NULL, 0, 0, NULL, 0, NULL, 0, NULL, 0);
+    written_at("no message to authenticate", w, BAFIROLEN_REFUSED_SHORTAGE, 2, 0);
+    written_is("no required key", bafirolen_write_only_authenticated(H, 58, 20, NULL, 0, NULL, 0, NULL, 0), 0, 0);
+    w = bafirolen_write_only_authenticated(H, 58, 20, NULL, 0, lang, 2, NULL, 0);
+    written_is("a required key in no text", w, BAFIROLEN_REFUSED_REQUIRED_TABLE_OR_PLACE, 0);
+    w = bafirolen_write_only_authenticated(H, 58, 20, H + 26, 4, lang, 2, NULL, 0);
+    written_is("no room for its pair", w, BAFIROLEN_REFUSED_OUTPUT_TOO_SHORT, 0);
+    fresh();
+    w = bafirolen_write_only_authenticated(HOLLOW, 88, 35, NULL, 0, none, 2, out, BYTES);
+    written_is("the empty key required", w, 0, 6);
+    output_is("the empty key required", HOLLOW + 37, 6);
+}
+
 /* a header that is lent whole is accepted by each reader and written by each writer, or the sets above would show little */
 static void whole(const struct export *e)
 {
@@ -249,6 +275,7 @@ int main(void)
     }
     readers();
     writers();
+    required_keys();
     free(allocated);
     return compared();
 }

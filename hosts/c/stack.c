@@ -40,6 +40,7 @@ static struct export {
                {"bafirolen_write_encrypted_data_keys_section", write_keys, BAFIROLEN_STACK_KEYS, 0},
                {"bafirolen_read_header_auth_tag", read_record, BAFIROLEN_STACK_KEYS, 0},
                {"bafirolen_write_header_auth_tag", write_record, BAFIROLEN_STACK_KEYS, 0},
+               {"bafirolen_write_only_authenticated", write_only_authenticated, BAFIROLEN_STACK_ONLY_AUTHENTICATED, 0},
                {"bafirolen_header_number", number, BAFIROLEN_STACK_LISTED, 0},
                {"bafirolen_header_position", position, BAFIROLEN_STACK_LISTED, 0},
                {"bafirolen_write_listing", listing, BAFIROLEN_STACK_LISTED, 0},

@@ -34,12 +34,13 @@ use Rattle.checks.specs.Answers.{write-answer-of}
 use Rattle.checks.specs.Answers.{Writes as Answers}
 use Rattle.checks.specs.declared.WriteAnswer.{WriteAnswer}
 use Rattle.checks.specs.declared.WriteAnswer.the-variants as write
+use Rattle.only_authenticated.specs.Codes.{written-as, whole}
 use Rattle.bafirolen_c.specs.declared.BafirolenSection.{BafirolenSection}
 use Rattle.bafirolen_c.specs.declared.BafirolenAuth.{BafirolenAuth}
 use Rattle.bafirolen_c.specs.declared.BafirolenPlace.{BafirolenPlace}
 use Rattle.bafirolen_c.specs.declared.BafirolenWritten.{BafirolenWritten}
 use Rattle.bafirolen_c.specs.Asked.{which-asked, mode-asked, max-asked, request-asked}
-use Rattle.bafirolen_c.specs.Exports.{section-record, context-fields, keys-fields, auth-record, auth-fields, place-record, found-fields, wrote, written-record, write-fields, Writes}
+use Rattle.bafirolen_c.specs.Exports.{section-record, context-fields, keys-fields, auth-record, auth-fields, place-record, found-fields, wrote, written-record, write-fields, image-record, Writes}
 
 -- a number that is tested
 module _ {A : Type 0} (n k : ℕ) (x y : A) where
@@ -127,3 +128,10 @@ found-crosses o a r e f = e ∙ ap found-fields f ∙ found-as o
 
 pub write-crosses : (w : Writing) (before after : List ℕ) (a : WriteAnswer) (r : BafirolenWritten) → r ≡ write-fields a → Answers w before after a → Writes w before after r
 write-crosses w before after a r e f = record { answer = e ∙ ap write-fields (f .answer) ∙ write-as (written w before); output = f .output }
+
+image-as : (o : Answer (List ℕ)) → write-fields (written-as o) ≡ image-record o
+image-as (accepted image t) = refl
+image-as (refused k p) = refl
+
+pub image-crosses : (o : Answer (List ℕ)) (before after : List ℕ) (a : WriteAnswer) → Reads written-as whole o before after a → (r : BafirolenWritten) → r ≡ write-fields a → Reads image-record whole o before after r
+image-crosses o before after a f r e = record { answer = e ∙ ap write-fields (f .answer) ∙ image-as o; table = f .table }

@@ -149,6 +149,11 @@ abbrev pub write-fields : WriteAnswer → BafirolenWritten
 write-fields (write.Written n) = wrote 0 0 n
 write-fields (write.Refused q) = wrote (q .number) (q .position) 0
 
+-- an image that was written
+abbrev pub image-record : Answer (List ℕ) → BafirolenWritten
+image-record (accepted image t) = wrote 0 0 (length image)
+image-record (refused k p) = wrote k p 0
+
 -- the contract of every writer: what it answers, and what the output holds afterwards
 pub record Writes (w : Writing) (before after : List ℕ) (r : BafirolenWritten) : Type 0 where
   pub answer : r ≡ written-record (written w before)

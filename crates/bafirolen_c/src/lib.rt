@@ -1,6 +1,7 @@
 // Every operation for a host program in C or Rust. Enums don't cross the boundary: each answer is a number or a struct of numbers, by value.
 mod asked;
 mod auth_tag;
+mod authenticated;
 mod body;
 mod finding;
 mod listing;

@@ -11,9 +11,11 @@ use Rattle.format.specs.Context.{Mode, tolerant, strict, read-aad-section, read
 use Rattle.format.specs.Keys.{at-most, read-encrypted-data-keys-section-into}
 use Rattle.format.specs.Body.{Which, either, v1-only, v2-only, read-header-body}
 use Rattle.format.specs.Auth.{read-header-auth-tag, read-header-auth-tag-of}
+use Rattle.format.specs.OnlyAuthenticated.{write-only-authenticated}
 use Rattle.format.specs.Refusals.{section-refusals, opening-refusals, reserved-refusals, frame-refusals, closing-refusals, keys-refusals, body-refusals, auth-refusals}
-use Rattle.cases.specs.Cases.{H, opened}
+use Rattle.cases.specs.Cases.{H, opened, laid-out}
 use Rattle.cases.specs.Headers.{bytes-from, V2}
+use Rattle.cases.specs.Tags.{selecting}
 use Rattle.cases.specs.Occurs.{listed-for}
 
 -- a refusal's number
@@ -136,7 +138,7 @@ strict-body either = refl
 strict-body v1-only = refl
 strict-body v2-only = refl
 
--- one pair and no table; no pair and any key
+-- one pair and no table; no pair and any key; a required table of odd length; one required pair and no output
 pub no-table : (mode : Mode) → said (read-aad-section-into mode 0) (0x00 ∷ 0x06 ∷ 0x00 ∷ 0x01 ∷ 0x00 ∷ 0x00 ∷ 0x00 ∷ 0x00 ∷ [], 0) ≡ some 22
 unfolding opened said
 no-table mode = refl
@@ -144,6 +146,14 @@ no-table mode = refl
 pub no-pair : said (find-value []) (0x00 ∷ 0x00 ∷ [], 0) ≡ some 29
 unfolding opened said find-value look-up
 no-pair = refl
+
+pub odd-table : said (write-only-authenticated [] (0 ∷ []) 0) (0x00 ∷ 0x00 ∷ [], 0) ≡ some 31
+unfolding opened said laid-out selecting
+odd-table = refl
+
+pub no-output : said (write-only-authenticated [] (0 ∷ 0 ∷ []) 0) (0x00 ∷ 0x06 ∷ 0x00 ∷ 0x01 ∷ 0x00 ∷ 0x00 ∷ 0x00 ∷ 0x00 ∷ [], 0) ≡ some 28
+unfolding opened said laid-out selecting
+no-output = refl
 
 -- a key section with at most one key and no table
 abbrev pub key-calls : List Call

@@ -13,14 +13,15 @@ use Rattle.format.specs.Context.{Mode, tolerant, strict, read-aad-section, read
 use Rattle.format.specs.Keys.{at-most}
 use Rattle.format.specs.Body.{Which, either, v1-only, v2-only, read-header-body}
 use Rattle.format.specs.Auth.{read-header-auth-tag}
-use Rattle.format.specs.Refusals.{section-refusals, context-refusals, find-refusals, opening-refusals, reserved-refusals, frame-refusals, closing-refusals, keys-refusals, body-refusals, auth-refusals}
+use Rattle.format.specs.OnlyAuthenticated.{write-only-authenticated}
+use Rattle.format.specs.Refusals.{section-refusals, context-refusals, find-refusals, only-authenticated-refusals, opening-refusals, reserved-refusals, frame-refusals, closing-refusals, keys-refusals, body-refusals, auth-refusals}
 use Rattle.format.proofs.Tests.{is-eqb}
 use Rattle.format.proofs.Suites.{every-member}
 use Rattle.format.proofs.Messages.{refused-stays}
 use Rattle.format.proofs.Firsts.{or-cases}
 use Rattle.cases.specs.Occurs.{Answers, listed-for, Occurs}
 use Rattle.cases.proofs.Long.{long, long-section, long-body, long-in-body}
-use Rattle.cases.proofs.Calls.{number-of, Call, calls, said, sections, others, far-and-short, section-answers, opening-bytes, is-v1, body-calls, body-answers, old-form, strict-section, strict-body, no-table, no-pair, key-calls, key-answers, auth-said, auth-calls, auth-answers}
+use Rattle.cases.proofs.Calls.{number-of, Call, calls, said, sections, others, far-and-short, section-answers, opening-bytes, is-v1, body-calls, body-answers, old-form, strict-section, strict-body, no-table, no-pair, odd-table, no-output, key-calls, key-answers, auth-said, auth-calls, auth-answers}
 
 -- a number that is answered by a call
 answered : {A : Type 0} (r : Reader A) (c : Call) (k : ℕ) → said r c ≡ some k → Answers r k
@@ -95,6 +96,16 @@ of-find k h =
     (λ i. let a = section-answered tolerant k i in ([], record { message = a .message; start = a .start; position = a .position; answers = refused-stays _ (look-up []) (a .message) (a .start) k (a .position) (a .answers) }))
     (one-apart 29 common find-refusals refl k h)
 
+-- and in what is only authenticated
+of-only-authenticated : (k : ℕ) → List·Memᴰ k only-authenticated-refusals → (text : List ℕ) × (required : List ℕ) × (room : ℕ) × Answers (write-only-authenticated text required room) k
+unfolding every section-refusals only-authenticated-refusals write-only-authenticated
+of-only-authenticated k h =
+    ⊎-elim (λ e. ([], 0 ∷ 0 ∷ [], 0, answered (write-only-authenticated [] (0 ∷ 0 ∷ []) 0) _ k (no-output ∙ ap some (sym e))))
+    (λ i. ⊎-elim (λ e. ([], 0 ∷ [], 0, answered (write-only-authenticated [] (0 ∷ []) 0) _ k (odd-table ∙ ap some (sym e))))
+    (λ j. let a = section-answered tolerant k j in ([], [], 0, record { message = a .message; start = a .start; position = a .position; answers = refused-stays _ _ (a .message) (a .start) k (a .position) (a .answers) }))
+    (one-apart 31 common (31 ∷ common) refl k i))
+    (one-apart 28 (31 ∷ common) only-authenticated-refusals refl k h)
+
 -- a body
 without-21 : (which : Which) → every (λ k. eqb k 21 || elem (listed-for which tolerant) k) (listed-for which strict) ≡ true
 unfolding every opening-refusals section-refusals reserved-refusals frame-refusals closing-refusals body-refusals
@@ -126,6 +137,7 @@ occurs =
     record {
       of-context = of-context;
       of-find = of-find;
+      of-only-authenticated = of-only-authenticated;
       of-keys = λ k h. (at-most 1, 0, each-answered _ key-calls keys-refusals key-answers k h);
       of-body = λ which mode k h. (at-most 1, 4, 0, of-body which mode k h);
       of-auth = λ k h. let (c, e) = among auth-said auth-calls auth-refusals auth-answers k h in (c .0, answered (read-header-auth-tag (c .0)) ([], c .1) k e);

@@ -15,16 +15,20 @@ use Rattle.format.specs.Context.{Mode, tolerant, strict, read-aad-section-into,
 use Rattle.format.specs.Keys.{no-max, at-most, read-encrypted-data-keys-section-into}
 use Rattle.format.specs.Body.{Which, either, v1-only, v2-only, read-header-body}
 use Rattle.format.specs.Auth.{read-header-auth-tag, read-header-auth-tag-of, write-header-auth-tag, zeros}
+use Rattle.format.specs.OnlyAuthenticated.{write-only-authenticated}
 use Rattle.format.specs.Checks.{first, pairs-checks, keys-checks, auth-checks}
-use Rattle.format.specs.Lent.{pair-numbers, key-numbers, items, part-in, in-text, table-checks, Writing, refusal-of, fields-to-write, writing-aad-section, writing-encrypted-data-keys-section, writing-header-body, writing-header-auth-tag}
+use Rattle.format.specs.Lent.{pair-numbers, key-numbers, table-checks, Writing, refusal-of, fields-to-write, writing-aad-section, writing-encrypted-data-keys-section, writing-header-body, writing-header-auth-tag}
 use Rattle.cases.specs.Cases.{Expected, accepts, refuses, shortage-at, is, body-numbers, H, opened, laid-out}
 use Rattle.cases.specs.Headers.{bytes-from, V2}
+use Rattle.cases.specs.Tags.{selecting}
 
 pub data Fault : Type 0 where
   -- a context section of a mode, with a table of so many numbers
   section : Mode → ℕ → List ℕ → Expected → Fault
   -- a value's key, in a context section
   find : List ℕ → List ℕ → Expected → Fault
+  -- what is only authenticated of a context section, by a required table over no text, into an output of so many bytes
+  select : List ℕ → ℕ → List ℕ → Expected → Fault
   -- a key section, at most one key, with a table of so many numbers
   keys : ℕ → List ℕ → Expected → Fault
   -- a body, at a start, with tables of so many numbers each
@@ -49,6 +53,7 @@ no-numbers a = []
 unfoldable pub answered : Fault → Bool
 answered (section mode room m want) = is pair-numbers (operation (read-aad-section-into mode room) m 0) want
 answered (find k m want) = is no-numbers (operation (find-value k) m 0) want
+answered (select required room m want) = is (λ bytes. bytes) (operation (write-only-authenticated [] required room) m 0) want
 answered (keys room m want) = is key-numbers (operation (read-encrypted-data-keys-section-into (at-most 1) room) m 0) want
 answered (body which pairRoom keyRoom m s want) = is body-numbers (operation (read-header-body which tolerant no-max pairRoom keyRoom) m s) want
 answered (strictly m want) = is body-numbers (operation (read-header-body either strict no-max 0 0) m 0) want
@@ -121,6 +126,12 @@ faults =
     ∷ find (0x61 ∷ []) (0x00 ∷ 0x02 ∷ 0x00 ∷ 0x00 ∷ []) (refuses 29 0)
     ∷ find (0x6C ∷ 0x61 ∷ []) (take 14 (drop 20 H)) (refuses 29 0)
     ∷ find (0x6C ∷ 0x61 ∷ 0x6E ∷ 0x67 ∷ []) (take 14 (drop 20 H)) (accepts 14 [])
+    -- select what is only authenticated
+    ∷ select (0 ∷ []) 0 (0x00 ∷ 0x07 ∷ 0x00 ∷ 0x01 ∷ 0x00 ∷ 0x00 ∷ 0x00 ∷ 0x00 ∷ 0x00 ∷ []) (refuses 14 0)
+    ∷ select (0 ∷ 0 ∷ 0 ∷ []) 5 (0x00 ∷ 0x06 ∷ 0x00 ∷ 0x01 ∷ 0x00 ∷ 0x00 ∷ 0x00 ∷ 0x00 ∷ []) (refuses 31 0)
+    ∷ select (0 ∷ 0 ∷ 0 ∷ 1 ∷ []) 5 (0x00 ∷ 0x06 ∷ 0x00 ∷ 0x01 ∷ 0x00 ∷ 0x00 ∷ 0x00 ∷ 0x00 ∷ []) (refuses 31 0)
+    ∷ select (0 ∷ 0 ∷ 0 ∷ 0 ∷ []) 5 (0x00 ∷ 0x06 ∷ 0x00 ∷ 0x01 ∷ 0x00 ∷ 0x00 ∷ 0x00 ∷ 0x00 ∷ []) (refuses 28 0)
+    ∷ select (0 ∷ 0 ∷ 0 ∷ 0 ∷ []) 6 (0x00 ∷ 0x06 ∷ 0x00 ∷ 0x01 ∷ 0x00 ∷ 0x00 ∷ 0x00 ∷ 0x00 ∷ []) (accepts 8 (0x00 ∷ 0x01 ∷ 0x00 ∷ 0x00 ∷ 0x00 ∷ 0x00 ∷ []))
     -- read a context section
     ∷ section strict 0 (0x00 ∷ 0x02 ∷ 0x00 ∷ 0x01 ∷ []) (refuses 8 0)
     ∷ section strict 0 (0x00 ∷ 0x03 ∷ 0x00 ∷ 0x00 ∷ []) (shortage-at 5)
@@ -183,5 +194,5 @@ faults =
     ∷ []
 
 pub first-fault : every answered faults ≡ true
-unfolding opened laid-out faults answered is H V2 bytes-from body-numbers look-up find-value zeros read-encrypted-data-keys-section-into read-header-auth-tag-of read-header-auth-tag write-header-auth-tag auth-checks items part-in in-text table-checks refusal-of fields-to-write writing-aad-section writing-encrypted-data-keys-section writing-header-body writing-header-auth-tag
+unfolding opened laid-out selecting faults answered is H V2 bytes-from body-numbers look-up find-value zeros read-encrypted-data-keys-section-into read-header-auth-tag-of read-header-auth-tag write-header-auth-tag auth-checks table-checks refusal-of fields-to-write writing-aad-section writing-encrypted-data-keys-section writing-header-body writing-header-auth-tag
 first-fault = refl

@@ -1,5 +1,6 @@
 pub mod Cases
 pub mod Texts
 pub mod Headers
+pub mod Tags
 pub mod Faults
 pub mod Occurs

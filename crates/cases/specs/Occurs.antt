@@ -7,7 +7,8 @@ use Rattle.format.specs.Context.{Mode, read-aad-section-into, find-value}
 use Rattle.format.specs.Keys.{Max, no-max, read-encrypted-data-keys-section-into}
 use Rattle.format.specs.Body.{Which, request, tests-frames, read-header-body}
 use Rattle.format.specs.Auth.{read-header-auth-tag}
-use Rattle.format.specs.Refusals.{context-refusals, find-refusals, keys-refusals, body-refusals, auth-refusals}
+use Rattle.format.specs.OnlyAuthenticated.{write-only-authenticated}
+use Rattle.format.specs.Refusals.{context-refusals, find-refusals, only-authenticated-refusals, keys-refusals, body-refusals, auth-refusals}
 
 -- there is a message and a start of which the reader answers the refusal
 pub record Answers {A : Type 0} (r : Reader A) (number : ℕ) : Type 0 where
@@ -23,6 +24,8 @@ listed-for which mode = body-refusals (request which mode (tests-frames which) n
 pub record Occurs : Type 0 where
   pub of-context : (mode : Mode) (k : ℕ) → List·Memᴰ k (context-refusals mode) → (room : ℕ) × Answers (read-aad-section-into mode room) k
   pub of-find : (k : ℕ) → List·Memᴰ k find-refusals → (key : List ℕ) × Answers (find-value key) k
+  pub of-only-authenticated : (k : ℕ) → List·Memᴰ k only-authenticated-refusals
+      → (text : List ℕ) × (required : List ℕ) × (room : ℕ) × Answers (write-only-authenticated text required room) k
   pub of-keys : (k : ℕ) → List·Memᴰ k keys-refusals → (max : Max) × (room : ℕ) × Answers (read-encrypted-data-keys-section-into max room) k
   pub of-body : (which : Which) (mode : Mode) (k : ℕ) → List·Memᴰ k (listed-for which mode)
       → (max : Max) × (pairRoom : ℕ) × (keyRoom : ℕ) × Answers (read-header-body which mode max pairRoom keyRoom) k

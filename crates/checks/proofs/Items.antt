@@ -41,7 +41,7 @@ every-at f (suc n) at e (suc j) h =
     rw z (every-at f n (at + 2) (both (f at) _ e .1) j (omega arith))
 
 -- what is made of the parts of items is what is made of the items
-images-append : {B C : Type 0} (f : B → List C) (xs ys : List B) → images f (xs ++ ys) ≡ images f xs ++ images f ys
+pub images-append : {B C : Type 0} (f : B → List C) (xs ys : List B) → images f (xs ++ ys) ≡ images f xs ++ images f ys
 unfolding images
 images-append f [] ys = refl
 images-append f (x ∷ xs) ys = ap (λ l. f x ++ l) (images-append f xs ys) ∙ sym (append-assoc (f x) (images f xs) (images f ys))
@@ -52,7 +52,7 @@ module _ {A B C : Type 0} where
   images-of-images f g h e [] = refl
   images-of-images f g h e (x ∷ xs) = images-append f (g x) (images g xs) ∙ ap₂ (λ a b. a ++ b) (e x) (images-of-images f g h e xs)
 
-sum-append : {B : Type 0} (f : B → ℕ) (xs ys : List B) → sum f (xs ++ ys) ≡ sum f xs + sum f ys
+pub sum-append : {B : Type 0} (f : B → ℕ) (xs ys : List B) → sum f (xs ++ ys) ≡ sum f xs + sum f ys
 unfolding sum
 sum-append f [] ys = omega arith
 sum-append f (x ∷ xs) ys = ap (λ (n : ℕ). f x + n) (sum-append f xs ys) ∙ sym (add-assoc (f x) (sum f xs) (sum f ys))

@@ -11,11 +11,11 @@ use Rattle.format.specs.Serialize.{images, sum, every, entry-length}
 use Rattle.format.specs.Utf8.{valid-utf8-seq}
 use Rattle.format.specs.Fields.{pair-parts, key-parts}
 use Rattle.format.specs.Checks.{first, has-uint16-len}
-use Rattle.format.specs.Lent.{bytes-at, items, part-in, pair-in, key-in, pairs-in, keys-in, here, places, in-text, table-checks}
+use Rattle.format.specs.Lent.{parts-in, bytes-at, items, part-in, pair-in, key-in, pairs-in, keys-in, here, places, in-text, table-checks}
 use Rattle.format.proofs.Firsts.{both, holds}
 use Rattle.steps.proofs.Numbers.{length-part}
 use Rattle.checks.specs.Answers.{checked}
-use Rattle.checks.specs.Table.{parts-in, short, numbers-checks, entry-size, entries-size, Within, Passed}
+use Rattle.checks.specs.Table.{short, numbers-checks, entry-size, entries-size, Within, Passed}
 use Rattle.checks.specs.declared.Checked.{Checked}
 use Rattle.checks.specs.declared.Checked.the-variants.{Passes}
 use Rattle.checks.proofs.Items.{every-at}

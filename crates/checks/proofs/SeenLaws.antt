@@ -54,14 +54,14 @@ unfolding items
 indexed-none text table s = record { index = index-start (key-of text table) (KeyThere text table) s }
 
 module _ (text table : List ℕ) (i at : ℕ) (s : List ℕ) (ix : Indexed text table i s) (is : at ≡ 4 * i) (w : Spot)
-    (h : Sought (key-of text table) (items (pair-in text table) 4 i 0) i s (part-in text table at) w) where
-  pub new-not : w ≡ Found → (t : List ℕ) → New text table i at t false
-  new-not e t = record { is = rw (sought-seen _ _ _ _ _ w h e); after = tt }
+    (h : Sought (key-of text table) i s (part-in text table at) w) where
+  pub new-not : (p : ℕ) → w ≡ Found p → (t : List ℕ) → New text table i at t false
+  new-not p e t = record { is = rw (sought-seen _ _ _ _ w h _ _ (ix .index) p e); after = tt }
 
   pub new-yes : (p : ℕ) → w ≡ At p → Within text table at → (t : List ℕ) → Shifted s t p i i → New text table i at t true
   unfolding key-of
   new-yes p e there t sh =
-      let b = sought-between _ _ _ _ _ w h p e in
+      let b = sought-between _ _ _ _ w h p e in
       let q = pair-in text table at in
       let same-key : key-of text table i ≡ q .key = rw is in
       let more : items (pair-in text table) 4 (i + 1) 0 ≡ items (pair-in text table) 4 i 0 ++ (q ∷ []) = rw (add-one, items-snoc (pair-in text table) 4 i 0, zero-add, ← is) in

@@ -8,11 +8,7 @@ use lib.Dec.{leb}
 use lib.ListN.{length, getD}
 use Rattle.format.specs.Serialize.{every, sum}
 use Rattle.format.specs.Checks.{Check, check}
-use Rattle.format.specs.Lent.{items, part-in, places, in-text, table-checks}
-
--- all the parts of a table, two numbers each
-abbrev pub parts-in : List ℕ → List ℕ → List (List ℕ)
-parts-in text table = items (part-in text table) 2 (length table / 2) 0
+use Rattle.format.specs.Lent.{places, in-text, table-checks}
 
 -- the part at a place is not above 65,535 bytes
 unfoldable pub short : List ℕ → ℕ → Bool

@@ -7,7 +7,7 @@ use index::insert;
 ghost use mathlib.Core.Path.{_≡_};
 ghost use Prim.Native.Nat.{_*_, _≤_, _<_};
 ghost use lib.ListN.{length, getD};
-ghost use Rattle.format.specs.Lent.{items, part-in, pair-in};
+ghost use Rattle.format.specs.Lent.{part-in};
 ghost use Rattle.comparing.specs.Order.{compare-bytes};
 ghost use Rattle.index.specs.Index.{Sought};
 ghost use Rattle.checks.specs.Table.{Within};
@@ -29,14 +29,14 @@ fn probe(text: &[u8], table: &[u32], keys: &[u16], r: usize, key: usize) -> Orde
 // Looks the part at `key` up among the keys of the first n pairs: the last one first, and then by halves.
 fn find(text: &[u8], table: &[u32], n: usize, keys: &[u16], key: usize) -> Spot
     requires { ⌜ (Indexed (now text) (now table) n (now keys)) × (n ≤ length (now keys)) × (Within (now text) (now table) key) ⌝ }
-    ensures { λ r. ⌜ Sought (key-of (now (text .entry)) (now (table .entry))) (items (pair-in (now (text .entry)) (now (table .entry))) 4 n 0) n (now (keys .entry)) (part-in (now (text .entry)) (now (table .entry)) key) r ⌝ }
+    ensures { λ r. ⌜ Sought (key-of (now (text .entry)) (now (table .entry))) n (now (keys .entry)) (part-in (now (text .entry)) (now (table .entry)) key) r ⌝ }
 {
     let mut h = Halves::of(n);
     while h.lo < h.hi {
         let mid = h.mid;
         match probe(text, table, keys, mid, key) {
             Order::Less => h = h.above(),
-            Order::Equal => return Spot::Found,
+            Order::Equal => return Spot::Found(mid),
             Order::Greater => h = h.below(),
         }
     }

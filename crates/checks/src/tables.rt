@@ -39,7 +39,7 @@ fn is_short(table: &[u32], at: usize) -> bool
 }
 
 // Whether each place lies inside the text.
-fn all_in_text(text: &[u8], table: &[u32]) -> bool
+pub fn all_in_text(text: &[u8], table: &[u32]) -> bool
     ensures { λ r. ⌜ r ≡ every (in-text (now (text .entry)) (now (table .entry))) (places (now (table .entry))) ⌝ }
 {
     let n = table.len() / 2;

@@ -116,7 +116,7 @@ pub fn same(a: &[u8], b: &[u8]) -> bool
     false
 }
 
-fn compare(a: &[u8], b: &[u8]) -> Order
+pub fn compare(a: &[u8], b: &[u8]) -> Order
     ensures { λ r. ⌜ r ≡ compare-bytes (now (a .entry)) (now (b .entry)) ⌝ }
 {
     let i = common_len(a, b);

@@ -28,10 +28,9 @@ use Rattle.entries.proofs.Answers.{next-got, next-no}
 use Rattle.entries.proofs.Items.{reach}
 use Rattle.entries.proofs.Walk.{walk-start, walk-end, walk-stop, walk-more}
 use Rattle.index.specs.Index.{Copied}
-use Rattle.index.proofs.Grown.{index-copied}
-use Rattle.pair_index.specs.Index.{key-of, KeyInside, first-pairs, Ready, Added}
-use Rattle.pair_index.proofs.SeenLaws.{index-start}
-use Rattle.context.specs.Stepping.{Onward, Grown, After, Stepped, Reached, UpTo, ReadUpTo}
+use Rattle.pair_index.specs.Index.{Indexed, Ready, Added}
+use Rattle.pair_index.proofs.SeenLaws.{indexed-start, indexed-copied}
+use Rattle.context.specs.Stepping.{Onward, Grown, After, Stepped, Reached, UpTo, ReadUpTo, Lendable, AfterAll, ReadAll}
 use Rattle.context.proofs.Known.{pair-tidy, pair-known, pair-kind, forward, here-size}
 
 -- a key and a value
@@ -90,7 +89,7 @@ module _ (m : List ℕ) (first n s : ℕ) (x : Next) (xIs : x ≡ next-of (at re
           here = on .here;
           inside = omega arith;
           room = on .room;
-          index = on .index;
+          indexed = on .index;
         }
 
     pub step-behind : first ≤ t
@@ -206,7 +205,7 @@ module _ (m : List ℕ) (first n k : ℕ) (keys₀ keys : List ℕ) (i s : ℕ) 
 
 -- the reading as a whole, with one index after another
 pub reached-start : (m : List ℕ) (first n : ℕ) (keys : List ℕ) → first ≤ length m → Reached m first n 0 first keys
-reached-start m first n keys h = record { walk = walk-start m first n h; near = omega arith; room = omega arith; index = index-start m first keys }
+reached-start m first n keys h = record { walk = walk-start m first n h; near = omega arith; room = omega arith; index = indexed-start m first keys }
 
 module _ (m : List ℕ) (first n i s : ℕ) (keys : List ℕ) (there : Reached m first n i s keys) where
   pub reached-some : i ≤ n
@@ -221,7 +220,7 @@ module _ (m : List ℕ) (first n i s : ℕ) (keys : List ℕ) (there : Reached m
         walk = there .walk;
         near = there .near;
         room = omega (arith, there .room, c .longer);
-        index = index-copied (key-of m first) (KeyInside m first) (first-pairs m first i) i keys (there .index) (there .room) larger c;
+        index = indexed-copied m first i keys larger (there .index) (there .room) c;
       }
 
 module _ (m : List ℕ) (first n i : ℕ) (keys : List ℕ) (r : Next) (h : ReadUpTo m first n i keys r) where
@@ -244,3 +243,32 @@ up-to-all m first n keys r h = go r refl
     go : (x : Next) → r ≡ x → r ≡ next-of (at (repeat n read-next-aad-pair []) m first)
     go (next.At s) e = e ∙ up-to-end m first n n keys r h s e refl
     go (next.Not q) e = up-to-stop m first n n keys r h q e
+
+-- the index afterwards
+all-after : (m : List ℕ) (first n room : ℕ) (keys : List ℕ) (r : Next) → ReadUpTo m first n n keys r → AfterAll m first n room keys r
+all-after m first n room keys r h = go r refl
+  where
+    go : (x : Next) → r ≡ x → AfterAll m first n room keys r
+    go (next.At s) e = subst (AfterAll m first n room keys) (sym e) (λ _. let y = up-to-reached m first n n keys r h s e in record { room = y .room; indexed = y .index })
+    go (next.Not q) e = subst (AfterAll m first n room keys) (sym e) tt
+
+pub all-indexed : (m : List ℕ) (first n room : ℕ) (keys : List ℕ) (r : Next) → ReadUpTo m first n n keys r → ReadAll m first n room keys r
+all-indexed m first n room keys r h = record { answer = up-to-all m first n keys r h; after = all-after m first n room keys r h }
+
+-- and an index that has no room for them promises nothing
+pub all-grown : (m : List ℕ) (first n room : ℕ) (keys : List ℕ) (r : Next) → room < 16384 → room < n → r ≡ next-of (at (repeat n read-next-aad-pair []) m first) → ReadAll m first n room keys r
+all-grown m first n room keys r few less e = record { answer = e; after = go r }
+  where
+    go : (x : Next) → AfterAll m first n room keys x
+    go (next.At s) = λ h. absurd (omega (arith, h few))
+    go (next.Not q) = tt
+
+-- indexes that are lent
+pub lent-small : (room : ℕ) → room ≤ 512 → Lendable room
+lent-small room h = record { grows = λ _. h }
+
+pub lent-largest : (room : ℕ) → 16384 ≤ room → Lendable room
+lent-largest room h = record { grows = λ k. absurd (omega arith) }
+
+pub lent-grows : (room : ℕ) → Lendable room → room < 16384 → room ≤ 512
+lent-grows room h = h .grows

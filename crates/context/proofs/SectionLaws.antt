@@ -1,5 +1,5 @@
 -- The ways out of the functions that read a section, one law each. Assumes nothing.
-use mathlib.Core.Path.{_≡_, refl, sym, ap, _∙_}
+use mathlib.Core.Path.{_≡_, refl, sym, ap, subst, _∙_}
 use mathlib.Core.Bool.{Bool, true, false}
 use mathlib.Core.List.{List, []}
 use Prim.Native.Nat.{ℕ, _+_, _≤_, _<_}
@@ -30,8 +30,10 @@ use Rattle.entries.specs.declared.Next.the-variants as next
 use Rattle.entries.proofs.Answers.{Went, next-got, next-no}
 use Rattle.entries.proofs.Walk.{all-length}
 use Rattle.context.specs.Codes.{context-of, old-of}
+use Rattle.context.specs.Stepping.{AfterAll, ReadAll, AfterSection, Indexes}
 use Rattle.context.specs.declared.ContextAnswer.{ContextAnswer}
 use Rattle.context.specs.declared.ContextAnswer.the-variants.{Accepted, Refused}
+use Rattle.pair_index.proofs.SeenLaws.{indexed-start}
 use Rattle.context.proofs.Known.{next-pair-tidy, pair-kind}
 
 module _ (mode : Mode) (r : ContextAnswer) (tail : ℕ) where
@@ -102,7 +104,10 @@ module _ (mode : Mode) (m : List ℕ) (s n : ℕ) (g : s + n ≤ length m) (x : 
       pub counted-9 : (n ≡ 2 → ⊥) → count ≡ 0 → r ≡ Refused (because 9 0) → r ≡ context-of (at (framed n 14 (read-aad (mode-of mode) n)) m s)
       counted-9 h k f = f ∙ sym (rw (stops 9 0 (aad-9 mode m s n count first c h k)))
 
-    module _ (h : n ≡ 2 → ⊥) (k : count ≡ 0 → ⊥) (e : Next) (eIs : e ≡ next-of (at (repeat count read-next-aad-pair []) m first)) where
+    module _ (h : n ≡ 2 → ⊥) (k : count ≡ 0 → ⊥) (room : ℕ) (keys : List ℕ) (e : Next) (all : ReadAll m first count room keys e) where
+      eIs : e ≡ next-of (at (repeat count read-next-aad-pair []) m first)
+      eIs = all .answer
+
       pub counted-stop : (q : Refusal) → e ≡ next.Not q → (a : Refusal) → a ≡ why-next e → Refused a ≡ context-of (at (framed n 14 (read-aad (mode-of mode) n)) m s)
       counted-stop q d a f =
           rw (f, d, stops _ _ (aad-many mode m s n count first c h k ∙ next-no (at (repeat count read-next-aad-pair []) m first) e eIs q d))
@@ -153,3 +158,26 @@ module _ (mode : Mode) (m : List ℕ) (s : ℕ) (x : Number) (is : x ≡ number-
 
 pub length-fits : (m : List ℕ) (s : ℕ) (x : Number) → x ≡ number-of (at read-uint16 m s) → (n t : ℕ) → x ≡ number.Is n t → length m < 4294967296 → n < 65536 → Fits w64 (t + n)
 length-fits m s x is n t b h k = let y = uint16-known m s n t (number-got (at read-uint16 m s) x is n t b) in omega arith
+
+-- the index afterwards, by the way out
+module _ (m : List ℕ) (first room : ℕ) (keys : List ℕ) (r : ContextAnswer) where
+  pub indexes-refused : (q : Refusal) → r ≡ Refused q → Indexes m first room keys r
+  indexes-refused q e = record { after = subst (AfterSection m first room keys) (sym e) tt }
+
+  pub indexes-empty : (t : ℕ) → r ≡ Accepted 0 t → Indexes m first room keys r
+  indexes-empty t e = record { after = subst (AfterSection m first room keys) (sym e) (λ _. record { room = omega arith; indexed = indexed-start m first keys }) }
+
+  pub indexes-old : (mode : Mode) (t : ℕ) → r ≡ old-of mode t → Indexes m first room keys r
+  indexes-old Tolerant t e = indexes-empty t e
+  indexes-old Strict t e = indexes-refused (because 21 0) e
+
+module _ (m : List ℕ) (s : ℕ) (x : Number) (is : x ≡ number-of (at read-uint16 m s)) (n first : ℕ) (b : x ≡ number.Is n first) (room : ℕ) (keys : List ℕ) where
+  behind : first ≡ s + 2
+  behind = let y = uint16-known m s n first (number-got (at read-uint16 m s) x is n first b) in omega arith
+
+  pub indexes-pairs : (e : Next) → ReadAll m first n room keys e → (t : ℕ) → e ≡ next.At t → (r : ContextAnswer) → r ≡ Accepted n t → Indexes m (s + 2) room keys r
+  indexes-pairs e all t d r f =
+      record { after = rw (← behind) (subst (AfterSection m first room keys) (sym f) (subst (AfterAll m first n room keys) d (all .after))) }
+
+  pub indexes-rest : (r : ContextAnswer) → Indexes m (first + 2) room keys r → Indexes m (s + 4) room keys r
+  indexes-rest r h = let z : s + 4 ≡ first + 2 = omega (arith, behind) in rw z h

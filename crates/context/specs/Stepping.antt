@@ -10,7 +10,9 @@ use Rattle.entries.specs.Walk.{Walk}
 use Rattle.entries.specs.Codes.{next-of}
 use Rattle.entries.specs.declared.Next.{Next}
 use Rattle.entries.specs.declared.Next.the-variants as next
-use Rattle.pair_index.specs.Index.{Index}
+use Rattle.context.specs.declared.ContextAnswer.{ContextAnswer}
+use Rattle.context.specs.declared.ContextAnswer.the-variants as context
+use Rattle.pair_index.specs.Index.{Indexed}
 
 -- n pairs from `first` on end at s, the index has their keys, and it has room for one more
 pub record Onward (m : List ℕ) (first n s : ℕ) (keys : List ℕ) : Type 0 where
@@ -18,11 +20,11 @@ pub record Onward (m : List ℕ) (first n s : ℕ) (keys : List ℕ) : Type 0 wh
   pub here : s ≡ pairs-end m n first
   pub inside : s ≤ length m
   pub room : n < length keys
-  pub index : Index m first n keys
+  pub index : Indexed m first n keys
 
 -- one more pair was read, which ends at t, and the index has its key
 pub record Grown (m : List ℕ) (first n : ℕ) (keys : List ℕ) (t : ℕ) : Type 0 where
-  pub index : Index m first (suc n) keys
+  pub index : Indexed m first (suc n) keys
   pub near : t < first + 65534
 
 abbrev pub After : List ℕ → ℕ → ℕ → List ℕ → Next → Type 0
@@ -39,7 +41,7 @@ pub record Reached (m : List ℕ) (first n i s : ℕ) (keys : List ℕ) : Type 0
   pub walk : Walk read-next-aad-pair pair-here pair-end m first n i s
   pub near : s < first + 65534
   pub room : i ≤ length keys
-  pub index : Index m first i keys
+  pub index : Indexed m first i keys
 
 abbrev pub UpTo : List ℕ → ℕ → ℕ → ℕ → List ℕ → Next → Type 0
 UpTo m first n i keys (next.At t) = Reached m first n i t keys
@@ -48,3 +50,33 @@ UpTo m first n i keys (next.Not r) = next.Not r ≡ next-of (at (repeat n read-n
 -- r is the place where i of n pairs end, or it is the whole reading's refusal
 pub record ReadUpTo (m : List ℕ) (first n i : ℕ) (keys : List ℕ) (r : Next) : Type 0 where
   pub up-to : UpTo m first n i keys r
+
+-- an index that is lent is small enough to grow, or it has as many places as any section needs
+pub record Lendable (room : ℕ) : Type 0 where
+  pub grows : room < 16384 → room ≤ 512
+
+-- an index of that many places has room for n pairs: they are not more, or it has as many as any section needs
+abbrev pub Roomy : ℕ → ℕ → Type 0
+Roomy room n = room < 16384 → n ≤ room
+
+-- the index has room for the n pairs, and has them
+pub record HasPairs (m : List ℕ) (first n : ℕ) (keys : List ℕ) : Type 0 where
+  pub room : n ≤ length keys
+  pub indexed : Indexed m first n keys
+
+abbrev pub AfterAll : List ℕ → ℕ → ℕ → ℕ → List ℕ → Next → Type 0
+AfterAll m first n room keys (next.At t) = Roomy room n → HasPairs m first n keys
+AfterAll m first n room keys (next.Not r) = Unit {0}
+
+-- r is where n pairs from `first` on end, or their refusal; and an index that has room for them has them
+pub record ReadAll (m : List ℕ) (first n room : ℕ) (keys : List ℕ) (r : Next) : Type 0 where
+  pub answer : r ≡ next-of (at (repeat n read-next-aad-pair []) m first)
+  pub after : AfterAll m first n room keys r
+
+-- the same of a section that was read
+abbrev pub AfterSection : List ℕ → ℕ → ℕ → List ℕ → ContextAnswer → Type 0
+AfterSection m first room keys (context.Accepted n t) = Roomy room n → HasPairs m first n keys
+AfterSection m first room keys (context.Refused r) = Unit {0}
+
+pub record Indexes (m : List ℕ) (first room : ℕ) (keys : List ℕ) (r : ContextAnswer) : Type 0 where
+  pub after : AfterSection m first room keys r

@@ -12,7 +12,7 @@ ghost use lib.ListN.{length};
 ghost use Rattle.format.specs.Read.{at, repeat};
 ghost use Rattle.format.specs.Context.{read-aad-pair, read-next-aad-pair};
 ghost use Rattle.entries.specs.Codes.{next-of};
-ghost use Rattle.context.specs.Stepping.{Onward, Stepped, Reached, ReadUpTo};
+ghost use Rattle.context.specs.Stepping.{Onward, Stepped, Reached, ReadUpTo, ReadAll, Lendable};
 
 // ReadAADPair: a key and a value, both UTF-8.
 fn read_pair(m: &[u8], s: u64) -> Next
@@ -124,15 +124,17 @@ fn pairs_from(m: &[u8], first: u64, count: usize, from: usize, start: u64, keys:
     pairs_with_largest(m, first, count, to, s, keys)
 }
 
-// ReadAADPairs: where the `count` pairs from `first` on end.
-pub(crate) fn read_pairs(m: &[u8], first: u64, count: u64) -> Next
-    requires { ⌜ (first ≤ length (now m)) × (length (now m) < 4294967296) ⌝ }
-    ensures { λ r. ⌜ r ≡ next-of (at (repeat count read-next-aad-pair []) (now (m .entry)) first) ⌝ }
+// ReadAADPairs: where the `count` pairs from `first` on end. An index with room for them has them afterwards.
+pub(crate) fn read_pairs(m: &[u8], first: u64, count: u64, keys: &mut [u16]) -> Next
+    requires { ⌜ (first ≤ length (now m)) × (length (now m) < 4294967296) × Lendable (length (now keys)) ⌝ }
+    ensures { λ r. ⌜ ReadAll (now (m .entry)) first count (length (now (keys .entry))) (now (keys .exit)) r ⌝ }
 {
     let n = count as usize;
-    let mut keys = [0u16; 32];
-    if n <= 32 {
-        return pairs_up_to(m, first, n, 0, n, first, &mut keys[..]);
+    if 16384 <= keys.len() {
+        return pairs_up_to(m, first, n, 0, n, first, keys);
     }
-    pairs_from(m, first, n, 0, first, &mut keys[..])
+    if n <= keys.len() {
+        return pairs_up_to(m, first, n, 0, n, first, keys);
+    }
+    pairs_from(m, first, n, 0, first, keys)
 }

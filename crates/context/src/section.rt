@@ -16,6 +16,7 @@ ghost use Rattle.format.specs.Read.{at, framed};
 ghost use Rattle.format.specs.Context.{read-aad, read-aad-section};
 ghost use Rattle.request.specs.Codes.{mode-of};
 ghost use Rattle.context.specs.Codes.{context-of, old-of};
+ghost use Rattle.context.specs.Stepping.{Indexes, Lendable};
 
 // An empty context in its old form.
 fn old_empty(mode: Mode, tail: u64) -> ContextAnswer
@@ -28,9 +29,9 @@ fn old_empty(mode: Mode, tail: u64) -> ContextAnswer
 }
 
 // What follows the section's length n, which the message has: a count and the pairs.
-fn counted(m: &[u8], s: u64, n: u64, mode: Mode) -> ContextAnswer
-    requires { ⌜ (s + n ≤ length (now m)) × (length (now m) < 4294967296) ⌝ }
-    ensures { λ r. ⌜ r ≡ context-of (at (framed n 14 (read-aad (mode-of mode) n)) (now (m .entry)) s) ⌝ }
+fn counted(m: &[u8], s: u64, n: u64, mode: Mode, keys: &mut [u16]) -> ContextAnswer
+    requires { ⌜ (s + n ≤ length (now m)) × (length (now m) < 4294967296) × Lendable (length (now keys)) ⌝ }
+    ensures { λ r. ⌜ (r ≡ context-of (at (framed n 14 (read-aad (mode-of mode) n)) (now (m .entry)) s)) × Indexes (now (m .entry)) (s + 2) (length (now (keys .entry))) (now (keys .exit)) r ⌝ }
 {
     let x = reading::read_u16(m, s);
     let Number::Is {
@@ -49,7 +50,7 @@ fn counted(m: &[u8], s: u64, n: u64, mode: Mode) -> ContextAnswer
     if count == 0 {
         return refused(refusals::NO_COUNT_IN_CONTEXT);
     }
-    let e = pairs::read_pairs(m, first, count);
+    let e = pairs::read_pairs(m, first, count, keys);
     let Next::At(tail) = e else {
         return ContextAnswer::Refused(e.refusal());
     };
@@ -59,10 +60,10 @@ fn counted(m: &[u8], s: u64, n: u64, mode: Mode) -> ContextAnswer
     refused(refusals::CONTEXT_LENGTH)
 }
 
-// ReadAADSection at a place.
-pub fn context_at(m: &[u8], start: u64, mode: Mode) -> ContextAnswer
-    requires { ⌜ (start < 4294967296) × (length (now m) < 4294967296) ⌝ }
-    ensures { λ r. ⌜ r ≡ context-of (at (read-aad-section (mode-of mode)) (now (m .entry)) start) ⌝ }
+// ReadAADSection at a place. An index with room for the section's pairs has them afterwards.
+pub fn indexed_context_at(m: &[u8], start: u64, mode: Mode, keys: &mut [u16]) -> ContextAnswer
+    requires { ⌜ (start < 4294967296) × (length (now m) < 4294967296) × Lendable (length (now keys)) ⌝ }
+    ensures { λ r. ⌜ (r ≡ context-of (at (read-aad-section (mode-of mode)) (now (m .entry)) start)) × Indexes (now (m .entry)) (start + 4) (length (now (keys .entry))) (now (keys .exit)) r ⌝ }
 {
     let x = reading::read_u16(m, start);
     let Number::Is { value: n, tail } = x else {
@@ -75,5 +76,14 @@ pub fn context_at(m: &[u8], start: u64, mode: Mode) -> ContextAnswer
     if (m.len() as u64) < end {
         return ContextAnswer::Refused(shortage(end));
     }
-    counted(m, tail, n, mode)
+    counted(m, tail, n, mode, keys)
+}
+
+// The same with an index of its own.
+pub fn context_at(m: &[u8], start: u64, mode: Mode) -> ContextAnswer
+    requires { ⌜ (start < 4294967296) × (length (now m) < 4294967296) ⌝ }
+    ensures { λ r. ⌜ r ≡ context-of (at (read-aad-section (mode-of mode)) (now (m .entry)) start) ⌝ }
+{
+    let mut keys = [0u16; 32];
+    indexed_context_at(m, start, mode, &mut keys[..])
 }

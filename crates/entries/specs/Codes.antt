@@ -1,7 +1,7 @@
 -- The code's answers, of what a reader answers; and the contract of a reader with a lent table. Assumes nothing.
 use mathlib.Core.Path.{_≡_}
 use mathlib.Core.List.{List}
-use Prim.Native.Nat.{ℕ, _+_, _≤_}
+use Prim.Native.Nat.{ℕ, _+_, _≤_, _<_}
 use lib.ListN.{length}
 use Rattle.format.specs.Read.{Answer, accepted, refused}
 use Rattle.format.specs.Lent.{table-after}
@@ -25,6 +25,7 @@ why-next (next.Not r) = r
 pub record EntryIs (m : List ℕ) (s : ℕ) (e : Entry) : Type 0 where
   pub starts : e .start ≡ s + 2
   pub size : e .len ≡ number16 m s
+  pub short : e .len < 65536
   pub ends : e .tail ≡ entry-end m s
   pub within : e .start + e .len ≤ length m
 

@@ -1,7 +1,7 @@
 -- Equality of keys is equality of their bytes, and find answers the value of the one pair with that key. Assumes nothing.
 use mathlib.Core.Path.{_≡_, refl, sym, ap, _∙_}
 use mathlib.Core.Bool.{Bool, true, false, not, _&&_, _||_}
-use mathlib.Core.List.{List, [], _∷_, _++_, append-assoc, map, List·Memᴰ, List·Memᴰ·head, List·Memᴰ·tail}
+use mathlib.Core.List.{List, [], _∷_, _++_, append-assoc, map, List·Memᴰ, List·Memᴰ·head, List·Memᴰ·tail, Memᴰ·append-right}
 use Prim.Native.Nat.{ℕ}
 use native.Mathlib.Omega.{arith}
 use lib.Dec.{eqb}
@@ -12,7 +12,7 @@ use Rattle.format.specs.Fields.{Pair, PairAt, pair-of, pair-places}
 use Rattle.format.specs.Context.{seen, write-aad-pair, tolerant, read-aad-section, look-up, find-value}
 use Rattle.format.specs.Demand3.{Held, Each, Has, here, there, Differ, Finds}
 use Rattle.format.proofs.Tests.{is-eqb, eqb-is}
-use Rattle.format.proofs.Firsts.{both}
+use Rattle.format.proofs.Firsts.{both, or-right}
 use Rattle.format.proofs.Exact.{Oks, puts, map-puts}
 use Rattle.format.proofs.Context.{NextOk, pair-at, section-exact}
 use Rattle.format.proofs.Held.{context-held}
@@ -39,11 +39,7 @@ equal-same (x ∷ a) = rw (eqb-is x x refl, equal-same a) refl
 pub has-seen : (k : List ℕ) (ps : List PairAt) → Has k ps → seen k (map pair-of ps) ≡ true
 unfolding seen
 has-seen k (p ∷ ps) (here e) = rw (← e, equal-same k) refl
-has-seen k (p ∷ ps) (there h) = go (same-bytes k (p .key .bytes)) (has-seen k ps h)
-  where
-    go : (b : Bool) → seen k (map pair-of ps) ≡ true → (b || seen k (map pair-of ps)) ≡ true
-    go true e = refl
-    go false e = e
+has-seen k (p ∷ ps) (there h) = or-right (same-bytes k (p .key .bytes)) (has-seen k ps h)
 
 pub seen-has : (k : List ℕ) (ps : List PairAt) → seen k (map pair-of ps) ≡ true → Has k ps
 unfolding seen
@@ -54,22 +50,19 @@ seen-has k (p ∷ ps) e = go (same-bytes k (p .key .bytes)) refl e (seen-has k p
     go true q e f = here (same-equal k (p .key .bytes) q)
     go false q e f = there (f e)
 
--- refusal 12 at each pair leaves keys that differ
-seen-in : (k : List ℕ) (p : Pair) (before after : List Pair) → k ≡ p .key → seen k (before ++ (p ∷ after)) ≡ true
+-- and so of pairs without their places
+pub member-seen : (k : List ℕ) (p : Pair) (ps : List Pair) → List·Memᴰ p ps → k ≡ p .key → seen k ps ≡ true
 unfolding seen
-seen-in k p [] after e = rw (← e, equal-same k) refl
-seen-in k p (q ∷ before) after e = go (same-bytes k (q .key)) (seen-in k p before after e)
-  where
-    go : (b : Bool) → seen k (before ++ (p ∷ after)) ≡ true → (b || seen k (before ++ (p ∷ after))) ≡ true
-    go true h = refl
-    go false h = h
+member-seen k p (q ∷ ps) (List·Memᴰ·head e) h = rw (← ap (λ x. x .key) e, ← h, equal-same k) refl
+member-seen k p (q ∷ ps) (List·Memᴰ·tail m) h = or-right (same-bytes k (q .key)) (member-seen k p ps m h)
 
+-- refusal 12 at each pair leaves keys that differ
 contrary : {b : Bool} → b ≡ true → not b ≡ true → ⊥
 contrary e f = let z : _≡_ {A = ℕ} 0 1 = cc in omega arith
 
 -- the key of p, which stands among the pairs before, is in none of the pairs behind
 apart : (k : List ℕ) (p : Pair) (before after : List Pair) (ps : List PairAt) → Oks NextOk (before ++ (p ∷ after)) (map pair-of ps) → k ≡ p .key → Has k ps → ⊥
-apart k p before after (r ∷ ps) (o, os) e (here h) = contrary (seen-in (r .key .bytes) p before after (sym h ∙ e)) (o .new)
+apart k p before after (r ∷ ps) (o, os) e (here h) = contrary (member-seen (r .key .bytes) p (before ++ (p ∷ after)) (Memᴰ·append-right before (List·Memᴰ·head refl)) (sym h ∙ e)) (o .new)
 apart k p before after (r ∷ ps) (o, os) e (there h) = apart k p before (after ++ (pair-of r ∷ [])) ps (rw (append-assoc before (p ∷ after) (pair-of r ∷ [])) at os) e h
 
 differ : (acc : List Pair) (ps : List PairAt) → Oks NextOk acc (map pair-of ps) → Differ ps
@@ -105,8 +98,8 @@ not-found k (q ∷ ps) l s n = go (same-bytes k (q .key .bytes)) refl (not-found
     go true e r = absurd (n (here (same-equal k (q .key .bytes) e)))
     go false e r = r
 
-module _ (k m : List ℕ) (s : ℕ) (hb : Bytes m) where
-  one : (ps : List PairAt) (t : ℕ) → operation (read-aad-section tolerant) m s ≡ accepted ps t → Differ ps
+module _ (m : List ℕ) (s : ℕ) (hb : Bytes m) where
+  pub one : (ps : List PairAt) (t : ℕ) → operation (read-aad-section tolerant) m s ≡ accepted ps t → Differ ps
   one ps t e =
       let (l, x) = accepted-took (section-exact tolerant) m s hb ps t e in
       let same : map pair-of ps ≡ x .value .pairs = ap (map pair-of) (x .placed) ∙ map-puts write-aad-pair pair-at pair-of (λ s p. refl) _ (x .value .pairs) in
@@ -122,16 +115,16 @@ module _ (k m : List ℕ) (s : ℕ) (hb : Bytes m) where
       let (l, x) = accepted-took (section-exact tolerant) m s hb ps t e in
       rw (x .placed) (context-held m (x .value .form) (x .value .pairs) s (record { after = l; is = x .split }))
 
-  pub finds : Finds k m s
-  unfolding find-value
-  finds =
-      record {
-        refuses = λ j p e. refused-stays (read-aad-section tolerant) (look-up k) m s j p e;
-        one = one;
-        value = λ ps t e p h is.
-            let z = accepted-goes-on (read-aad-section tolerant) (look-up k) m s ps t e in
-            (z .1 ∙ ap answer (found k ps (z .0) t p h is (one ps t e)), value-held ps p h (placed ps t e));
-        none-has-it = λ ps t e n.
-            let z = accepted-goes-on (read-aad-section tolerant) (look-up k) m s ps t e in
-            z .1 ∙ ap answer (not-found k ps (z .0) t n);
-      }
+pub finds : (k m : List ℕ) (s : ℕ) → Bytes m → Finds k m s
+unfolding find-value
+finds k m s hb =
+    record {
+      refuses = λ j p e. refused-stays (read-aad-section tolerant) (look-up k) m s j p e;
+      one = one m s hb;
+      value = λ ps t e p h is.
+          let z = accepted-goes-on (read-aad-section tolerant) (look-up k) m s ps t e in
+          (z .1 ∙ ap answer (found k ps (z .0) t p h is (one m s hb ps t e)), value-held m s hb ps p h (placed m s hb ps t e));
+      none-has-it = λ ps t e n.
+          let z = accepted-goes-on (read-aad-section tolerant) (look-up k) m s ps t e in
+          z .1 ∙ ap answer (not-found k ps (z .0) t n);
+    }

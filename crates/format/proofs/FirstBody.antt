@@ -13,10 +13,11 @@ use Rattle.format.specs.Serialize.{Part, read, same-bytes}
 use Rattle.format.specs.Shared.{by, one-or-two, known, of-version, read-message-format-version, read-esdk-suite-id, read-content-type, suite-version, frame-fits}
 use Rattle.format.specs.Fields.{PairAt, EncryptedDataKeyAt, HeaderBody, pair-of}
 use Rattle.format.specs.Context.{Mode, tolerant, seen, look-up, find-value}
+use Rattle.format.specs.OnlyAuthenticated.{only-authenticated, fitting, write-only-authenticated}
 use Rattle.format.specs.Body.{Which, Opening, read-opening-of, read-opening, Closing, read-closing-of, read-closing, whole, Request, after-context, after-opening, read-body}
 use Rattle.format.specs.Auth.{HeaderAuth, zeros, read-header-auth-tag-of, read-header-auth-tag}
 use Rattle.format.specs.Places.{number8, number16, number32, part-of, entry-end, section-pairs, section-keys, section-keys-end, opening-here, closing-here, closing-end, body-here, body-end, value-of, value-here, auth-of-here, auth-here, auth-end}
-use Rattle.format.specs.First.{Line, lacks, when, unless, NoneApplies, FirstApplies, operation-list, opening-list-of, opening-list, closing-list-of, closing-list, frame-here, body-list, auth-list, find-list, FirstRefusal, FirstRefusals}
+use Rattle.format.specs.First.{Line, lacks, when, unless, NoneApplies, FirstApplies, operation-list, opening-list-of, opening-list, closing-list-of, closing-list, frame-here, body-list, auth-list, find-list, only-authenticated-list, FirstRefusal, FirstRefusals}
 use Rattle.format.proofs.Lines.{first-line, none-applies, applies-none, first-applies, applies-first, Goes, goes-as, return-goes, bind-goes, test-goes, read-goes}
 use Rattle.format.proofs.Messages.{refused-is-no-accepted}
 use Rattle.format.proofs.First.{uint8-goes, uint16-goes, uint32-goes, context-goes, context-into-goes, keys-goes, keys-into-goes}
@@ -98,6 +99,12 @@ find-goes : (k : List ℕ) → Goes (find-value k) (find-list k) (value-here k) 
 unfolding find-value find-list
 find-goes k = bind-goes (context-goes tolerant) (look-goes k)
 
+-- the bytes that are only authenticated
+only-authenticated-goes : (text required : List ℕ) (room : ℕ)
+    → Goes (write-only-authenticated text required room) (only-authenticated-list text required room) (λ m s. only-authenticated text required (section-pairs m s)) entry-end
+unfolding write-only-authenticated fitting only-authenticated-list
+only-authenticated-goes text required room = bind-goes (context-goes tolerant) (λ ps. test-goes _ _ (test-goes _ _ (return-goes _)))
+
 -- an authentication record; true: version 1
 auth-of-goes : (b : Bool) → Goes (read-header-auth-tag-of b) (λ m s. cond b (lacks 12 m s ∷ lacks 16 m (s + 12) ∷ []) (lacks 16 m s ∷ [])) (auth-of-here b) (λ m s. cond b (s + 12 + 16) (s + 16))
 unfolding read-header-auth-tag-of auth-of-here
@@ -162,6 +169,7 @@ first-refusals =
     record {
       of-context = λ mode room. first-refusal (context-into-goes mode room);
       of-find = λ k. first-refusal (find-goes k);
+      of-only-authenticated = λ text required room. first-refusal (only-authenticated-goes text required room);
       of-keys = λ max room. first-refusal (keys-into-goes max room);
       of-body = λ q. first-refusal (body-goes q);
       of-auth = λ suite. first-refusal (auth-goes suite);

@@ -48,6 +48,10 @@ pub or-cases : (a b : Bool) → (a || b) ≡ true → (a ≡ true) ⊎ (b ≡ tr
 or-cases true b e = inl refl
 or-cases false b e = inr e
 
+pub or-right : (a : Bool) {b : Bool} → b ≡ true → (a || b) ≡ true
+or-right true e = refl
+or-right false e = e
+
 pub first-fails : (checks : List Check) (k : ℕ) → first checks ≡ some k → FirstFails checks k
 unfolding first every
 first-fails [] k e = let z : _≡_ {A = ℕ} 0 1 = cc in absurd (omega arith)

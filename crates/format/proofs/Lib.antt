@@ -30,3 +30,6 @@ pub mod Lengths
 pub mod Tables
 pub mod Filled
 pub mod Pinned
+pub mod KeyOrder
+pub mod SelectionLaws
+pub mod Selection

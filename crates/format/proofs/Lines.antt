@@ -10,7 +10,7 @@ use native.Mathlib.Omega.{arith}
 use lib.Dec.{leb, ltb, eqb}
 use lib.ListN.{length, drop, length-drop}
 use lib.Seq.{drop-drop}
-use Rattle.format.specs.Read.{ReadResult, success, more-needed, error, Reader, go-on, _>>=_, _>>_, return, test, repeat, framed, Answer, accepted, refused, answer}
+use Rattle.format.specs.Read.{ReadResult, success, more-needed, error, Reader, go-on, _>>=_, _>>_, return, test, repeat, framed, Answer, accepted, refused, answer, at}
 use Rattle.format.specs.Serialize.{Part, read, every}
 use Rattle.format.specs.Places.{part-of, items-here, items-end}
 use Rattle.format.specs.First.{Line, lacks, when, unless, NoneApplies, FirstApplies, each-list}
@@ -109,6 +109,16 @@ applies-first xs k p h = (h .line, ap first-line (h .listed) ∙ skip (h .before
 pub record Goes {A : Type 0} (r : Reader A) (list : List ℕ → ℕ → List Line) (value : List ℕ → ℕ → A) (end : List ℕ → ℕ → ℕ) : Type 0 where
   pub passes : (m : List ℕ) (s : ℕ) → first-line (list m s) ≡ none → r (drop s m) s ≡ success (value m s) (drop (end m s) m) (end m s)
   pub stops : (m : List ℕ) (s : ℕ) (x : Line) → first-line (list m s) ≡ some x → answer (r (drop s m) s) ≡ refused (x .number) (x .position)
+
+-- where a reader accepts, it gives that value
+pub goes-accepted : {A : Type 0} {r : Reader A} {list : List ℕ → ℕ → List Line} {value : List ℕ → ℕ → A} {end : List ℕ → ℕ → ℕ} → Goes r list value end
+    → (m : List ℕ) (s : ℕ) (a : A) (t : ℕ) → at r m s ≡ accepted a t → a ≡ value m s
+unfolding at
+goes-accepted {A} {r} {list} {value} {end} h m s a t e = by (first-line (list m s)) refl
+  where
+    by : (x : Option Line) → first-line (list m s) ≡ x → a ≡ value m s
+    by none q = let z : _≡_ {A = Answer A} (accepted (value m s) (end m s)) (accepted a t) = sym (ap answer (h .passes m s q)) ∙ e in cc
+    by (some x) q = let z : _≡_ {A = Answer A} (refused (x .number) (x .position)) (accepted a t) = sym (h .stops m s x q) ∙ e in let w : _≡_ {A = ℕ} 0 1 = cc in absurd (omega arith)
 
 module _ {A : Type 0} where
   -- by another list with the same first line, and other words for the value and the end

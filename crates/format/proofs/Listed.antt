@@ -15,7 +15,8 @@ use Rattle.format.specs.Context.{Mode, tolerant, strict, read-text, read
 use Rattle.format.specs.Keys.{Max, read-encrypted-data-key, read-encrypted-data-keys-section, read-encrypted-data-keys-section-into}
 use Rattle.format.specs.Body.{Which, either, v1-only, v2-only, read-opening-of, read-opening, read-closing-of, read-closing, Opening, Request, after-context, after-opening, read-body}
 use Rattle.format.specs.Auth.{read-header-auth-tag-of, read-header-auth-tag}
-use Rattle.format.specs.Refusals.{section-refusals, context-refusals, find-refusals, opening-refusals, reserved-refusals, frame-refusals, closing-refusals, keys-refusals, body-refusals, auth-refusals, Refusal, RefusesBy, Refusals}
+use Rattle.format.specs.OnlyAuthenticated.{fitting, write-only-authenticated}
+use Rattle.format.specs.Refusals.{section-refusals, context-refusals, find-refusals, only-authenticated-refusals, opening-refusals, reserved-refusals, frame-refusals, closing-refusals, keys-refusals, body-refusals, auth-refusals, Refusal, RefusesBy, Refusals}
 use Rattle.format.proofs.Tests.{eqb-is, is-eqb}
 use Rattle.format.proofs.ListedLaws.{Fine, Listed, also, bind-listed, then-listed, return-listed, sure-listed, test-listed, read-listed, repeat-listed, framed-listed, Gives, return-gives, bind-gives, passed-listed, passed-gives, given-listed}
 use Rattle.format.proofs.Firsts.{both}
@@ -97,6 +98,10 @@ look-listed k (p ∷ ps) = record { fine = λ l s. go l s (same-bytes k (p .key 
 find-listed : (k : List ℕ) → Listed (section-refusals tolerant ++ (29 ∷ [])) (find-value k)
 unfolding find-value
 find-listed k = bind-listed (section-listed tolerant) (look-listed k)
+
+only-authenticated-listed : (text required : List ℕ) (room : ℕ) → Listed (section-refusals tolerant ++ (31 ∷ 28 ∷ [])) (write-only-authenticated text required room)
+unfolding write-only-authenticated fitting
+only-authenticated-listed text required room = bind-listed (section-listed tolerant) (λ ps. then-listed (test-listed 31 _) (then-listed (test-listed 28 _) (return-listed _)))
 
 -- the key section
 key-listed : Listed (16 ∷ []) read-encrypted-data-key
@@ -260,17 +265,18 @@ body-without-2 v2-only tolerant false = refl
 body-without-2 v2-only strict true = refl
 body-without-2 v2-only strict false = refl
 
-section-without-2 : (mode : Mode) (k : ℕ) → eqb k 2 ≡ false → every-other (section-refusals mode ++ (k ∷ [])) ≡ true
+section-without-2 : (mode : Mode) (ks : List ℕ) → every-other ks ≡ true → every-other (section-refusals mode ++ ks) ≡ true
 unfolding section-refusals
-section-without-2 tolerant k e = rw e refl
-section-without-2 strict k e = rw e refl
+section-without-2 tolerant ks e = rw e refl
+section-without-2 strict ks e = rw e refl
 
 pub refusals : Refusals
-unfolding context-refusals find-refusals keys-refusals body-refusals auth-refusals
+unfolding context-refusals find-refusals only-authenticated-refusals keys-refusals body-refusals auth-refusals
 refusals =
     record {
-      of-context = λ mode room. refuses _ _ (not-in _ (section-without-2 mode 22 refl)) (section-into-listed mode room);
-      of-find = λ k. refuses _ _ (not-in _ (section-without-2 tolerant 29 refl)) (find-listed k);
+      of-context = λ mode room. refuses _ _ (not-in _ (section-without-2 mode (22 ∷ []) refl)) (section-into-listed mode room);
+      of-find = λ k. refuses _ _ (not-in _ (section-without-2 tolerant (29 ∷ []) refl)) (find-listed k);
+      of-only-authenticated = λ text required room. refuses _ _ (not-in _ (section-without-2 tolerant (31 ∷ 28 ∷ []) refl)) (only-authenticated-listed text required room);
       of-keys = λ max room. refuses _ _ (not-in _ refl) (keys-into-listed max room);
       of-body = λ q. refuses _ _ (not-in _ (body-without-2 (q .which) (q .mode) (q .frames))) (body-listed q);
       of-auth = λ suite. refuses _ _ (not-in _ refl) (auth-listed suite);

@@ -1,6 +1,6 @@
 -- The tests that demand 3 has on both of its sides, each held to its statement. Assumes nothing.
 use mathlib.Core.Path.{_≡_, refl, ap}
-use mathlib.Core.Bool.{Bool, true, false, not, _&&_, _||_}
+use mathlib.Core.Bool.{Bool, true, false, not, _&&_}
 use mathlib.Core.Logic.{_⊎_, inl, inr, ⊎-elim}
 use mathlib.Core.List.{List, [], _∷_, _++_, append-assoc}
 use Prim.Native.Nat.{ℕ, zero, suc, _+_, _*_, _/_, _%_, _≤_, _<_}
@@ -22,7 +22,7 @@ use Rattle.format.specs.Demand3.{old-empty, reached-old, reaches-old}
 use Rattle.format.specs.Pinned.{Decides, Pinned}
 use Rattle.format.proofs.Tests.{leb-is, is-leb, nleb-is, is-nleb, eqb-is, is-eqb, neqb-is}
 use Rattle.format.proofs.Serialize.{read-fits, read-short}
-use Rattle.format.proofs.Firsts.{both, and, or-cases, first-fails, fails-first}
+use Rattle.format.proofs.Firsts.{both, and, or-cases, or-right, first-fails, fails-first}
 use Rattle.format.proofs.Grammar.{valid-octets, octets-valid}
 use Rattle.format.proofs.Characters.{to-characters, to-octets}
 use Rattle.format.proofs.Suites.{in-a-row, row-of, no-third, committing, eleven}
@@ -32,10 +32,6 @@ use Rattle.format.proofs.Filled.{pair-table, key-table}
 use Rattle.format.proofs.Lengths.{lengths}
 use Rattle.format.proofs.FirstBody.{opening-goes, first-refusal, none-applied}
 use Rattle.format.proofs.Find.{same-equal, equal-same, seen-has, has-seen}
-
-or-right : (a : Bool) {b : Bool} → b ≡ true → (a || b) ≡ true
-or-right true e = refl
-or-right false e = e
 
 one-two : (x : ℕ) → Decides (one-or-two x) ((x ≡ 1) ⊎ (x ≡ 2))
 one-two x =

@@ -11,6 +11,7 @@ use Rattle.format.specs.Serialize.{Bytes, Part, same-bytes, read, read-u
 use Rattle.format.specs.Shared.{id-length, iv-length, tag-length, commit-key-length, read-message-format-version, read-esdk-suite-id, read-content-type}
 use Rattle.format.specs.Fields.{PairAt}
 use Rattle.format.specs.Context.{Mode, tolerant, read-text, read-aad-pair, read-next-aad-pair, read-aad, read-aad-of, read-aad-section, read-aad-section-into, look-up, find-value}
+use Rattle.format.specs.OnlyAuthenticated.{fitting, write-only-authenticated}
 use Rattle.format.specs.Keys.{Max, read-encrypted-data-key, read-encrypted-data-keys-section, read-encrypted-data-keys-section-into}
 use Rattle.format.specs.Body.{Which, read-opening-of, read-opening, read-closing-of, read-closing, Opening, Request, after-context, after-opening, read-body}
 use Rattle.format.specs.Auth.{read-header-auth-tag-of, read-header-auth-tag}
@@ -161,6 +162,10 @@ find-wants : (k : List ℕ) → Wants Any (find-value k)
 unfolding find-value
 find-wants k = bind-wants (section-wants tolerant) (λ ps g. look-wants k ps)
 
+only-authenticated-wants : (text required : List ℕ) (room : ℕ) → Wants Any (write-only-authenticated text required room)
+unfolding write-only-authenticated fitting
+only-authenticated-wants text required room = bind-wants (section-wants tolerant) (λ ps g. then-wants (test-wants 31 _) (then-wants (test-wants 28 _) (return-wants _)))
+
 -- the key section
 key-wants : Wants Any read-encrypted-data-key
 unfolding read-encrypted-data-key
@@ -253,6 +258,7 @@ nearness =
     record {
       of-context = λ mode room. wants-near _ (section-into-wants mode room);
       of-find = λ k. wants-near _ (find-wants k);
+      of-only-authenticated = λ text required room. wants-near _ (only-authenticated-wants text required room);
       of-keys = λ max room. wants-near _ (keys-into-wants max room);
       of-body = λ q. wants-near _ (body-wants q);
       of-auth = λ suite. wants-near _ (auth-wants suite);

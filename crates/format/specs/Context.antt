@@ -39,6 +39,11 @@ write-aad-pairs ps = images write-aad-pair ps
 unfoldable pub write-aad : List Pair → List ℕ
 write-aad ps = write-uint16 (length ps) ++ write-aad-pairs ps
 
+-- WriteEmptyEcOrWriteAAD: the same, but an empty context is no bytes
+unfoldable pub write-empty-ec-or-write-aad : List Pair → List ℕ
+write-empty-ec-or-write-aad [] = []
+write-empty-ec-or-write-aad (p ∷ ps) = write-aad (p ∷ ps)
+
 -- WriteExpandedAADSection: the length of what follows, the count and the pairs
 unfoldable pub write-expanded-aad-section : List Pair → List ℕ
 write-expanded-aad-section ps = write-uint16 (2 + linear-length ps) ++ write-aad ps

@@ -16,6 +16,7 @@ use Rattle.format.specs.Context.{Mode, tolerant, is-strict, seen, pair-l
 use Rattle.format.specs.Keys.{Max, within, read-encrypted-data-keys-section-into}
 use Rattle.format.specs.Body.{Which, asked, Request, read-body}
 use Rattle.format.specs.Auth.{read-header-auth-tag}
+use Rattle.format.specs.OnlyAuthenticated.{only-authenticated, in-twos, write-only-authenticated}
 use Rattle.format.specs.Places.{number8, number16, number32, entry-here, entry-end, pair-here, pair-end, pairs-end, key-here, key-end, section-pairs, section-keys, section-keys-end, body-here, body-end, value-here, auth-here, auth-end}
 
 -- a line of a list: a refusal's number and position, and whether it applies
@@ -180,6 +181,14 @@ keys-into-list max room m s = keys-list max m s ++ (unless 23 (leb (6 * length (
 unfoldable pub find-list : List ℕ → List ℕ → ℕ → List Line
 find-list k m s = context-list tolerant m s ++ (unless 29 (seen k (map pair-of (section-pairs m s))) ∷ [])
 
+-- The bytes that are only authenticated: the section's, then 31, then 28
+unfoldable pub only-authenticated-list : List ℕ → List ℕ → ℕ → List ℕ → ℕ → List Line
+only-authenticated-list text required room m s =
+    context-list tolerant m s
+    ++ (unless 31 (in-twos text required)
+    ∷ unless 28 (leb (length (only-authenticated text required (section-pairs m s))) room)
+    ∷ [])
+
 -- AN OPERATION refuses by the first line that applies, 1 in front of them all; where none does it accepts, and gives what stands
 -- there and the place behind it (specs/Places), an empty part with the start that its bytes would have
 abbrev pub operation-list : (List ℕ → ℕ → List Line) → List ℕ → ℕ → List Line
@@ -193,6 +202,8 @@ pub record FirstRefusal {A : Type 0} (r : Reader A) (list : List ℕ → ℕ →
 pub record FirstRefusals : Type 0 where
   pub of-context : (mode : Mode) (room : ℕ) (m : List ℕ) (s : ℕ) → FirstRefusal (read-aad-section-into mode room) (context-into-list mode room) section-pairs entry-end m s
   pub of-find : (k m : List ℕ) (s : ℕ) → FirstRefusal (find-value k) (find-list k) (value-here k) entry-end m s
+  pub of-only-authenticated : (text required : List ℕ) (room : ℕ) (m : List ℕ) (s : ℕ)
+      → FirstRefusal (write-only-authenticated text required room) (only-authenticated-list text required room) (λ m s. only-authenticated text required (section-pairs m s)) entry-end m s
   pub of-keys : (max : Max) (room : ℕ) (m : List ℕ) (s : ℕ) → FirstRefusal (read-encrypted-data-keys-section-into max room) (keys-into-list max room) section-keys section-keys-end m s
   pub of-body : (q : Request) (m : List ℕ) (s : ℕ) → FirstRefusal (read-body q) (body-list q) body-here body-end m s
   pub of-auth : (suite : ℕ) (m : List ℕ) (s : ℕ) → FirstRefusal (read-header-auth-tag suite) (auth-list suite) (auth-here suite) (auth-end suite) m s

@@ -57,6 +57,10 @@ items f k (suc n) at = f at ∷ items f k n (at + k)
 unfoldable pub part-in : List ℕ → List ℕ → ℕ → List ℕ
 part-in text table at = bytes-at text (getD table at 0) (getD table (at + 1) 0)
 
+-- all the parts of a table
+abbrev pub parts-in : List ℕ → List ℕ → List (List ℕ)
+parts-in text table = items (part-in text table) 2 (length table / 2) 0
+
 abbrev pub pair-in : List ℕ → List ℕ → ℕ → Pair
 pair-in text table at = record { key = part-in text table at; value = part-in text table (at + 2) }
 

@@ -9,6 +9,8 @@ pub mod Body
 pub mod Auth
 pub mod Checks
 pub mod Lent
+pub mod Sorted
+pub mod OnlyAuthenticated
 pub mod Places
 pub mod First
 pub mod Refusals
@@ -17,3 +19,4 @@ pub mod Sections
 pub mod Characters
 pub mod Lengths
 pub mod Pinned
+pub mod Selection

@@ -11,6 +11,7 @@ use Rattle.format.specs.Context.{Mode, tolerant, strict, read-aad-sectio
 use Rattle.format.specs.Keys.{Max, read-encrypted-data-keys-section-into}
 use Rattle.format.specs.Body.{Which, either, v1-only, v2-only, Request, read-body}
 use Rattle.format.specs.Auth.{read-header-auth-tag}
+use Rattle.format.specs.OnlyAuthenticated.{write-only-authenticated}
 
 -- only the strict mode answers 21
 unfoldable pub section-refusals : Mode → List ℕ
@@ -22,6 +23,9 @@ context-refusals mode = 1 ∷ 2 ∷ (section-refusals mode ++ (22 ∷ []))
 
 unfoldable pub find-refusals : List ℕ
 find-refusals = 1 ∷ 2 ∷ (section-refusals tolerant ++ (29 ∷ []))
+
+unfoldable pub only-authenticated-refusals : List ℕ
+only-authenticated-refusals = 1 ∷ 2 ∷ (section-refusals tolerant ++ (31 ∷ 28 ∷ []))
 
 unfoldable pub keys-refusals : List ℕ
 keys-refusals = 1 ∷ 2 ∷ 15 ∷ 16 ∷ 23 ∷ []
@@ -65,6 +69,7 @@ RefusesBy listed r = (m : List ℕ) (s k p : ℕ) → operation r m s ≡ refuse
 pub record Refusals : Type 0 where
   pub of-context : (mode : Mode) (room : ℕ) → RefusesBy (context-refusals mode) (read-aad-section-into mode room)
   pub of-find : (k : List ℕ) → RefusesBy find-refusals (find-value k)
+  pub of-only-authenticated : (text required : List ℕ) (room : ℕ) → RefusesBy only-authenticated-refusals (write-only-authenticated text required room)
   pub of-keys : (max : Max) (room : ℕ) → RefusesBy keys-refusals (read-encrypted-data-keys-section-into max room)
   pub of-body : (q : Request) → RefusesBy (body-refusals q) (read-body q)
   pub of-auth : (suite : ℕ) → RefusesBy auth-refusals (read-header-auth-tag suite)
@@ -76,6 +81,7 @@ WantsNear r = (m : List ℕ) (s p : ℕ) → Bytes m → operation r m s ≡ ref
 pub record Nearness : Type 0 where
   pub of-context : (mode : Mode) (room : ℕ) → WantsNear (read-aad-section-into mode room)
   pub of-find : (k : List ℕ) → WantsNear (find-value k)
+  pub of-only-authenticated : (text required : List ℕ) (room : ℕ) → WantsNear (write-only-authenticated text required room)
   pub of-keys : (max : Max) (room : ℕ) → WantsNear (read-encrypted-data-keys-section-into max room)
   pub of-body : (q : Request) → WantsNear (read-body q)
   pub of-auth : (suite : ℕ) → WantsNear (read-header-auth-tag suite)

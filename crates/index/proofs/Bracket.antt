@@ -2,11 +2,9 @@
 use Prim.Native.Nat.{ℕ, _+_, _-_, _/_, _<_, _≤_}
 use native.Mathlib.Omega.{arith}
 use mathlib.Core.Path.{_≡_, refl, sym, ap, subst, _∙_}
-use mathlib.Core.Bool.{true}
 use mathlib.Core.List.{List}
 use lib.ListN.{length, getD}
 use Rattle.format.specs.Fields.{Pair}
-use Rattle.format.specs.Context.{seen}
 use Rattle.comparing.specs.Order.{compare-bytes, flip}
 use Rattle.comparing.specs.declared.Order.{Order}
 use Rattle.comparing.specs.declared.Order.the-variants.{Less, Equal, Greater}
@@ -33,8 +31,8 @@ bracket-start key n s k h e =
     subst (Bracket key n s k) (sym e)
     (record { meet = omega arith; within = omega arith; below = λ r h. absurd (omega arith); above = λ r h g. absurd (omega arith); left = omega arith; right = λ g. omega arith })
 
-pub bracket-end : (key : ℕ → List ℕ) (done : List Pair) (n : ℕ) (s k : List ℕ) (h : Halves) → Bracket key n s k h → h .hi ≤ h .lo → Sought key done n s k (At (h .lo))
-bracket-end key done n s k h inv g =
+pub bracket-end : (key : ℕ → List ℕ) (n : ℕ) (s k : List ℕ) (h : Halves) → Bracket key n s k h → h .hi ≤ h .lo → Sought key n s k (At (h .lo))
+bracket-end key n s k h inv g =
     record { finds = record { within = omega (arith, inv .meet, inv .within); below = inv .below; above = λ r a b. inv .above r (omega arith) b } }
 
 -- what is left shrinks
@@ -63,10 +61,8 @@ module _ (key : ℕ → List ℕ) (Good : ℕ → Type 0) (done : List Pair) (n 
     mid-good = ix .good (h .mid) in-all
 
     module _ (o : Order) (is : o ≡ compare-bytes (key (getD s (h .mid) 0)) k) where
-      pub mid-found : o ≡ Equal → Sought key done n s k Found
-      mid-found e =
-          let q : key (getD s (h .mid) 0) ≡ k = compare-equal (key (getD s (h .mid) 0)) k (sym is ∙ e) in
-          record { finds = subst (λ (x : List ℕ). seen x done ≡ true) q (ix .only (h .mid) in-all) }
+      pub mid-found : o ≡ Equal → Sought key n s k (Found (h .mid))
+      mid-found e = record { finds = record { within = in-all; is = compare-equal (key (getD s (h .mid) 0)) k (sym is ∙ e) } }
 
       pub mid-less : o ≡ Less → (a : Halves) → a ≡ between (h .mid + 1) (h .hi) → Bracket key n s k a
       mid-less e a f =

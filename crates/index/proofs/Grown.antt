@@ -12,7 +12,7 @@ use Rattle.comparing.specs.Order.{compare-bytes, flip}
 use Rattle.comparing.specs.declared.Order.{Order}
 use Rattle.comparing.specs.declared.Order.the-variants.{Less, Equal, Greater}
 use Rattle.comparing.proofs.Ordered.{Way, under, same, over, way, compare-flip, same-refl, less-not-same, greater-not-same}
-use Rattle.index.specs.Index.{Index, Between, Sought, Finds, Shifted, Copied}
+use Rattle.index.specs.Index.{Index, Stands, Between, Sought, Finds, Shifted, Copied}
 use Rattle.index.specs.declared.Spot.{Spot}
 use Rattle.index.specs.declared.Spot.the-variants.{Found, At}
 
@@ -146,12 +146,15 @@ module _ (key : ℕ → List ℕ) (Good : ℕ → Type 0) where
       index-more g = record { ascends = ascending; good = shifted-all s t p n x sh (b .within) Good g (ix .good); only = all-only; all = all-all }
 
 -- what a search found
-module _ (key : ℕ → List ℕ) (done : List Pair) (n : ℕ) (s k : List ℕ) (w : Spot) (h : Sought key done n s k w) where
-  pub sought-seen : w ≡ Found → seen k done ≡ true
-  sought-seen e = subst (λ (x : Spot). Finds key done n s k x) e (h .finds)
+module _ (key : ℕ → List ℕ) (n : ℕ) (s k : List ℕ) (w : Spot) (h : Sought key n s k w) where
+  pub sought-stands : (p : ℕ) → w ≡ Found p → Stands key n s k p
+  sought-stands p e = subst (λ (x : Spot). Finds key n s k x) e (h .finds)
+
+  pub sought-seen : (Good : ℕ → Type 0) (done : List Pair) → Index key Good done n s → (p : ℕ) → w ≡ Found p → seen k done ≡ true
+  sought-seen Good done ix p e = let y = sought-stands p e in subst (λ (x : List ℕ). seen x done ≡ true) (y .is) (ix .only p (y .within))
 
   pub sought-between : (p : ℕ) → w ≡ At p → Between key n s k p
-  sought-between p e = subst (λ (x : Spot). Finds key done n s k x) e (h .finds)
+  sought-between p e = subst (λ (x : Spot). Finds key n s k x) e (h .finds)
 
   pub sought-place : (p : ℕ) → w ≡ At p → p ≤ n
   sought-place p e = sought-between p e .within

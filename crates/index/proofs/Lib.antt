@@ -1,4 +1,5 @@
 pub mod Moved
 pub mod Bracket
 pub mod Grown
+pub mod Sorted
 pub mod Smaller

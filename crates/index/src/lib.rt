@@ -5,9 +5,9 @@ ghost use Prim.Native.Nat.{_+_, _-_, _≤_, _<_};
 ghost use lib.ListN.{length, getD};
 ghost use Rattle.index.specs.Index.{Copied, Shifted, between, least-of};
 
-// Where a key stands in an index: it is there, or it belongs at a place.
+// Where a key stands in an index, or where it belongs.
 pub enum Spot {
-    Found,
+    Found(usize),
     At(usize),
 }
 

@@ -3,6 +3,7 @@ use Prim.Native.Nat.{ℕ}
 use native.Mathlib.Omega.{arith}
 use mathlib.Core.Path.{_≡_, refl, sym, ap, _∙_}
 use mathlib.Core.List.{List}
+use lib.ListN.{length}
 use Rattle.format.specs.Read.{Reader, Answer, accepted, refused, operation}
 use Rattle.format.specs.Serialize.{Part}
 use Rattle.format.specs.Fields.{PairAt, EncryptedDataKeyAt}
@@ -18,6 +19,8 @@ use Rattle.keys.specs.Codes.{keys-of}
 use Rattle.keys.specs.declared.KeysAnswer.the-variants as keys
 use Rattle.auth.specs.Codes.{auth-of}
 use Rattle.auth.specs.declared.AuthRead.{AuthRead}
+use Rattle.checks.specs.declared.WriteAnswer.the-variants as write
+use Rattle.only_authenticated.specs.Codes.{written-as}
 use Rattle.promises.specs.Listed.{ByFirst, AuthByFirst, ListedPromises}
 
 -- an answer enum that keeps a refusal apart from what is accepted
@@ -44,6 +47,10 @@ back-keys : (o : Answer (List EncryptedDataKeyAt)) (q : Refusal) → keys-of o �
 back-keys (accepted ps t) q e = let z : _≡_ {A = ℕ} 0 1 = cc in absurd (omega arith)
 back-keys (refused k p) q e = let z : because k p ≡ q = cc in rw (← z) refl
 
+back-written : (o : Answer (List ℕ)) (q : Refusal) → written-as o ≡ write.Refused q → o ≡ refused (q .number) (q .position)
+back-written (accepted image t) q e = let z : _≡_ {A = ℕ} 0 1 = cc in absurd (omega arith)
+back-written (refused k p) q e = let z : because k p ≡ q = cc in rw (← z) refl
+
 auth-by-first : {r : Reader HeaderAuth} {list : List ℕ → ℕ → List Line} {here : List ℕ → ℕ → HeaderAuth} {end : List ℕ → ℕ → ℕ} {m : List ℕ} {s : ℕ} → FirstRefusal r list here end m s
     → (x : AuthRead) → x ≡ auth-of (operation r m s) → AuthByFirst (operation-list list m s) (auth-of (accepted (here m s) (end m s))) x
 auth-by-first {r} {list} {here} {end} {m} {s} law x e =
@@ -62,6 +69,7 @@ listed-promises =
     record {
       of-context = λ mode room m s before after r call. by-first context-of context.Refused back-context (λ k p. refl) (first-refusals .of-context mode room m s) r (call .answer);
       of-find = λ k m s r call. by-first found-of found.Refused back-found (λ k p. refl) (first-refusals .of-find k m s) r call;
+      of-only-authenticated = λ text required m s before after r call. by-first written-as write.Refused back-written (λ k p. refl) (first-refusals .of-only-authenticated text required (length before) m s) r (call .answer);
       of-keys = λ max room m s before after r call. by-first keys-of keys.Refused back-keys (λ k p. refl) (first-refusals .of-keys max room m s) r (call .answer);
       of-auth = λ suite m s r call. auth-by-first (first-refusals .of-auth suite m s) r call;
     }

@@ -3,13 +3,15 @@
 use Prim.Native.Nat.{ℕ}
 use mathlib.Core.Path.{_≡_}
 use mathlib.Core.List.{List}
+use lib.ListN.{length}
 use Rattle.format.specs.Read.{accepted, operation}
 use Rattle.format.specs.Context.{Mode, read-aad-section-into, find-value}
 use Rattle.format.specs.Keys.{Max, read-encrypted-data-keys-section-into}
 use Rattle.format.specs.Auth.{read-header-auth-tag}
 use Rattle.format.specs.Lent.{pair-numbers, key-numbers}
+use Rattle.format.specs.OnlyAuthenticated.{only-authenticated, write-only-authenticated}
 use Rattle.format.specs.Places.{entry-end, section-pairs, section-keys, section-keys-end, value-here, auth-here, auth-end}
-use Rattle.format.specs.First.{Line, NoneApplies, FirstApplies, operation-list, context-into-list, keys-into-list, find-list, auth-list}
+use Rattle.format.specs.First.{Line, NoneApplies, FirstApplies, operation-list, context-into-list, keys-into-list, find-list, only-authenticated-list, auth-list}
 use Rattle.wire.specs.Codes.{because}
 use Rattle.wire.specs.declared.Refusal.{Refusal}
 use Rattle.entries.specs.Codes.{Reads}
@@ -23,6 +25,9 @@ use Rattle.keys.specs.declared.KeysAnswer.{KeysAnswer}
 use Rattle.keys.specs.declared.KeysAnswer.the-variants as keys
 use Rattle.auth.specs.Codes.{auth-of}
 use Rattle.auth.specs.declared.AuthRead.{AuthRead}
+use Rattle.checks.specs.declared.WriteAnswer.{WriteAnswer}
+use Rattle.checks.specs.declared.WriteAnswer.the-variants as write
+use Rattle.only_authenticated.specs.Codes.{written-as, whole}
 
 -- an answer refuses just by the first line that applies, with its position, and is that of what stands there where none does
 pub record ByFirst {R : Type 0} (refused : Refusal → R) (list : List Line) (of-what-stands : R) (r : R) : Type 0 where
@@ -40,6 +45,8 @@ pub record ListedPromises : Type 0 where
   pub of-context : (mode : Mode) (room : ℕ) (m : List ℕ) (s : ℕ) (before after : List ℕ) (r : ContextAnswer)
       → Reads context-of pair-numbers (operation (read-aad-section-into mode room) m s) before after r → ByFirst context.Refused (operation-list (context-into-list mode room) m s) (context-of (accepted (section-pairs m s) (entry-end m s))) r
   pub of-find : (k m : List ℕ) (s : ℕ) (r : FoundAnswer) → r ≡ found-of (operation (find-value k) m s) → ByFirst found.Refused (operation-list (find-list k) m s) (found-of (accepted (value-here k m s) (entry-end m s))) r
+  pub of-only-authenticated : (text required m : List ℕ) (s : ℕ) (before after : List ℕ) (r : WriteAnswer) → Reads written-as whole (operation (write-only-authenticated text required (length before)) m s) before after r
+      → ByFirst write.Refused (operation-list (only-authenticated-list text required (length before)) m s) (write.Written (length (only-authenticated text required (section-pairs m s)))) r
   pub of-keys : (max : Max) (room : ℕ) (m : List ℕ) (s : ℕ) (before after : List ℕ) (r : KeysAnswer)
       → Reads keys-of key-numbers (operation (read-encrypted-data-keys-section-into max room) m s) before after r → ByFirst keys.Refused (operation-list (keys-into-list max room) m s) (keys-of (accepted (section-keys m s) (section-keys-end m s))) r
   pub of-auth : (suite : ℕ) (m : List ℕ) (s : ℕ) (r : AuthRead) → r ≡ auth-of (operation (read-header-auth-tag suite) m s) → AuthByFirst (operation-list (auth-list suite) m s) (auth-of (accepted (auth-here suite m s) (auth-end suite m s))) r

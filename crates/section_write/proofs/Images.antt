@@ -11,10 +11,10 @@ use Rattle.format.specs.Serialize.{write-uint16, write-short-length-seq, entry-
 use Rattle.format.specs.Fields.{Pair, EncryptedDataKey, pair-parts, key-parts}
 use Rattle.format.specs.Context.{linear-length, write-aad-pair, write-aad-pairs, write-aad, write-expanded-aad-section, write-aad-section}
 use Rattle.format.specs.Keys.{write-encrypted-data-key, write-encrypted-data-keys, write-encrypted-data-keys-section}
-use Rattle.format.specs.Lent.{pair-in, key-in, pairs-in, keys-in, writing-aad-section, writing-encrypted-data-keys-section, items}
+use Rattle.format.specs.Lent.{parts-in, pair-in, key-in, pairs-in, keys-in, writing-aad-section, writing-encrypted-data-keys-section, items}
 use Rattle.format.proofs.Context.{length-images}
 use Rattle.format.proofs.Serialize.{length-uint16, length-entry}
-use Rattle.checks.specs.Table.{parts-in, Passed, entries-size}
+use Rattle.checks.specs.Table.{Passed, entries-size}
 use Rattle.checks.proofs.Items.{items-length, images-of-images}
 use Rattle.checks.proofs.Parts.{in-fours, in-sixes, parts-size}
 use Rattle.checks.proofs.SectionChecks.{pairs-size}

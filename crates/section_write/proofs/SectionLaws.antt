@@ -7,11 +7,11 @@ use lib.ListN.{length}
 use borrow.Author.Tests.{eq-eqb, ne-eqb}
 use Rattle.format.specs.Serialize.{write-uint16, write-short-length-seq, images}
 use Rattle.format.specs.Checks.{first}
-use Rattle.format.specs.Lent.{writing-aad-section, writing-encrypted-data-keys-section}
+use Rattle.format.specs.Lent.{parts-in, writing-aad-section, writing-encrypted-data-keys-section}
 use Rattle.format.proofs.Serialize.{length-uint16}
 use Rattle.wire.specs.Stored.{stored}
 use Rattle.checks.specs.Answers.{checked}
-use Rattle.checks.specs.Table.{parts-in, Passed, entries-size}
+use Rattle.checks.specs.Table.{Passed, entries-size}
 use Rattle.checks.specs.declared.Checked.{Checked}
 use Rattle.checks.specs.declared.Checked.the-variants.{Passes}
 use Rattle.checks.proofs.Stages.{stage-none}

@@ -6,9 +6,9 @@ ghost use mathlib.Core.Bool.{true};
 ghost use Prim.Native.Nat.{_+_, _≤_, _<_};
 ghost use lib.ListN.{length, getD};
 ghost use Rattle.format.specs.Serialize.{write-short-length-seq, images, every};
-ghost use Rattle.format.specs.Lent.{part-in, places, in-text};
+ghost use Rattle.format.specs.Lent.{parts-in, part-in, places, in-text};
 ghost use Rattle.wire.specs.Stored.{stored};
-ghost use Rattle.checks.specs.Table.{parts-in, short, Within, entries-size};
+ghost use Rattle.checks.specs.Table.{short, Within, entries-size};
 
 // Writes the entry of the part whose place stands at j, and gives the place behind it.
 fn put_part(text: &[u8], table: &[u32], j: usize, out: &mut [u8], at: usize) -> usize

@@ -1,4 +1,4 @@
-// The refusals of document 01 by their numbers.
+// The refusals of document 01 and of the changes after it by their numbers.
 
 // Accepted: no refusal.
 pub const NONE: u8 = 0;
@@ -92,3 +92,6 @@ pub const NOT_FOUND: u8 = 29;
 
 // The tag is not 16 bytes.
 pub const TAG_LENGTH: u8 = 30;
+
+// The table of required keys has an odd length, or a place lies outside its text.
+pub const REQUIRED_TABLE_OR_PLACE: u8 = 31;

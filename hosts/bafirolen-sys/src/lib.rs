@@ -133,7 +133,7 @@ pub struct BafirolenWritten {
 
 /// The declarations here are those of an archive whose [`bafirolen_version`]
 /// answers this.
-pub const VERSION: u32 = 1;
+pub const VERSION: u32 = 2;
 
 extern "C" {
     /// Which declarations the archive was made for.
@@ -273,6 +273,20 @@ extern "C" {
         pairs_len: usize,
         keys: *const u32,
         keys_len: usize,
+        out: *mut u8,
+        out_len: usize,
+    ) -> BafirolenWritten;
+
+    /// Writes, of the context section at `start`, read tolerantly, the pairs
+    /// with the keys at a table's places in the text, sorted by their keys.
+    pub fn bafirolen_write_only_authenticated(
+        m: *const u8,
+        m_len: usize,
+        start: u64,
+        text: *const u8,
+        text_len: usize,
+        required: *const u32,
+        required_len: usize,
         out: *mut u8,
         out_len: usize,
     ) -> BafirolenWritten;

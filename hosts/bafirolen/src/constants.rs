@@ -17,12 +17,17 @@ pub const LARGEST_PAIR_TABLE: usize = NUMBERS_PER_PAIR * 16_383;
 pub const LARGEST_KEY_TABLE: usize = NUMBERS_PER_KEY * 65_535;
 
 /// Bytes of stack that a call to read a context or a body, or to find or copy a
-/// value, may take. This figure and the three below were measured on the
+/// value, may take. This figure and the four below were measured on the
 /// archive and rounded up, and a test holds it to them; nothing proves them.
 pub const STACK_READ: usize = 40_960;
 
 /// Bytes of stack for key sections and authentication records, read or written.
 pub const STACK_KEYS: usize = 1_024;
+
+/// Bytes of stack for
+/// [`write_only_authenticated`](crate::write_only_authenticated), which keeps
+/// the order of the pairs there.
+pub const STACK_ONLY_AUTHENTICATED: usize = 65_536;
 
 /// Bytes of stack for [`header_number`](crate::header_number),
 /// [`header_position`](crate::header_position) and

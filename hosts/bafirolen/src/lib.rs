@@ -4,8 +4,8 @@
 //! built, and not whose it is.
 //!
 //! A header has an encryption context, pairs of key and value, and encrypted
-//! data keys. Both keep their order: nothing is sorted, and no order is
-//! tested. Either may be empty.
+//! data keys. Both keep their order: no order is tested, and nothing is sorted,
+//! but for what [`write_only_authenticated`] writes. Either may be empty.
 //!
 //! # Lending
 //!
@@ -133,8 +133,9 @@
 //! the declarations were made for: a program that may be linked with another
 //! compares [`version`]`()` with [`VERSION`].
 //!
-//! A call takes up to [`STACK_READ`], [`STACK_KEYS`], [`STACK_LISTED`] or
-//! [`STACK_WRITE`] bytes of its thread's stack: 1 KiB to 140 KiB.
+//! A call takes up to [`STACK_READ`], [`STACK_KEYS`],
+//! [`STACK_ONLY_AUTHENTICATED`], [`STACK_LISTED`] or [`STACK_WRITE`] bytes of
+//! its thread's stack: 1 KiB to 140 KiB.
 //!
 //! The archive holds x86-64 code for Linux. The crate uses `core` alone, and
 //! needs Rust 1.87 or later.
@@ -147,6 +148,7 @@ mod constants;
 mod draft;
 mod finding;
 mod host;
+mod only_authenticated;
 mod parts;
 mod place;
 mod refusal;
@@ -162,6 +164,7 @@ pub use constants::*;
 pub use draft::{Draft, Numbers};
 pub use finding::{copy_value, find_bytes, find_part, find_value};
 pub use host::{header_number, header_position, version, write_listing};
+pub use only_authenticated::write_only_authenticated;
 pub use parts::{Key, Keys, Pair, Pairs};
 pub use place::Place;
 pub use refusal::Refusal;

@@ -48,7 +48,7 @@ macro_rules! refusals {
         }
 
         impl Refusal {
-            /// The refusal's number, 1 to 30 where it is listed.
+            /// The refusal's number, 1 to 31 where it is listed.
             #[must_use]
             pub const fn number(&self) -> u32 {
                 match self {
@@ -123,6 +123,7 @@ refusals! {
     28 OutputTooShort "output too short",
     29 NotFound "no pair has the key",
     30 TagLength "tag not 16 bytes",
+    31 RequiredTableOrPlace "required table of odd length, or a place outside its text",
 }
 
 impl Refusal {

@@ -43,7 +43,8 @@ pub enum Remedy {
     LendMore,
     /// All others: the request is refused whatever more is fetched or lent. A
     /// reader's caller rejects the message (4, 15 and 21 depend on what was
-    /// asked for), a writer's caller corrects the fields, and one who looked for
-    /// a key (29) does without: the context is good and lacks it.
+    /// asked for), a writer's caller corrects the fields or the required table
+    /// (31), and one who looked for a key (29) does without: the context is good
+    /// and lacks it.
     Reject,
 }

@@ -43,6 +43,7 @@ fn are_those_of_c() {
         ("VERSION", VERSION as usize),
         ("STACK_READ", STACK_READ),
         ("STACK_KEYS", STACK_KEYS),
+        ("STACK_ONLY_AUTHENTICATED", STACK_ONLY_AUTHENTICATED),
         ("STACK_LISTED", STACK_LISTED),
         ("STACK_WRITE", STACK_WRITE),
         ("NUMBERS_PER_PAIR", NUMBERS_PER_PAIR),

@@ -6,17 +6,18 @@
 use bafirolen::Refusal;
 use report::{assert_said, LISTED};
 
-const SOURCES: [&str; 6] = [
+const SOURCES: [&str; 7] = [
     include_str!("../src/auth.rs"),
     include_str!("../src/body.rs"),
     include_str!("../src/finding.rs"),
     include_str!("../src/host.rs"),
+    include_str!("../src/only_authenticated.rs"),
     include_str!("../src/sections.rs"),
     include_str!("../src/writes.rs"),
 ];
 
 /// A function, and what its operations in the comparisons begin with.
-const ROWS: [(&str, &str); 10] = [
+const ROWS: [(&str, &str); 11] = [
     ("read_aad_section", "read section"),
     ("read_encrypted_data_keys_section", "read keys"),
     ("read_header_body", "read body"),
@@ -27,6 +28,7 @@ const ROWS: [(&str, &str); 10] = [
     ("write_header_body", "write body"),
     ("write_header_auth_tag", "write auth"),
     ("write_listing", "write listing"),
+    ("write_only_authenticated", "write only authenticated"),
 ];
 
 /// What stands under 'Errors' over the function, as one line.

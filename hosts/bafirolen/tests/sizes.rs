@@ -2,8 +2,8 @@
 //! just so many, and none that is one shorter.
 
 use bafirolen::{
-    write_aad_section, write_encrypted_data_keys_section, write_header_body, Draft, Numbers,
-    Refusal, FRAMED,
+    write_aad_section, write_encrypted_data_keys_section, write_header_body,
+    write_only_authenticated, Draft, Numbers, Refusal, FRAMED,
 };
 
 /// Places of the lengths given, one after the other.
@@ -66,4 +66,29 @@ fn as_the_docs_say() {
         takes(length, write);
     }
     assert_eq!(longest, 76 + 2 + 12 + 12 + 355 + 315);
+}
+
+/// A section of pairs with these lengths, whose keys are all required: what is
+/// written is as long as the section without its length.
+#[test]
+fn of_required_pairs() {
+    let text: Vec<u8> = (b'a'..=b'z').cycle().take(600).collect();
+    let pairs: [&[u32]; 3] = [&[0, 0], &[1, 3, 2, 0], &[5, 9, 4, 7, 250, 80]];
+    for pairs in pairs {
+        let places = table(pairs);
+        let required: Vec<u32> = places
+            .chunks(4)
+            .flat_map(|pair| [pair[0], pair[1]])
+            .collect();
+        let mut section = [0; 600];
+        let length = write_aad_section(&text, &places, &mut section).unwrap();
+        let parts: u32 = pairs.iter().sum();
+        assert_eq!(length - 2, 2 + 2 * pairs.len() + parts as usize);
+        takes(length - 2, |out| {
+            write_only_authenticated(&section, 0, &text, &required, out)
+        });
+        // Where none is required, no room is needed.
+        let written = write_only_authenticated(&section, 0, &text, &[], &mut []);
+        assert_eq!(written, Ok(0));
+    }
 }

@@ -38,6 +38,15 @@ pub fn write_context(lent: &Lent, out: &mut [u8]) -> u64 {
 }
 
 #[inline]
+pub fn only_authenticated(message: &[u8], text: &[u8], required: &[u32], out: &mut [u8]) -> u64 {
+    told(
+        bafirolen::write_only_authenticated(message, 0, text, required, out)
+            .map(|length| length as u64)
+            .map_err(number),
+    )
+}
+
+#[inline]
 pub fn read_keys(message: &[u8], table: &mut [u32]) -> u64 {
     told(
         bafirolen::read_encrypted_data_keys_section(message, 0, None, table)

@@ -34,6 +34,11 @@ pub fn write_context(lent: &Lent, out: &mut [u8]) -> u64 {
 }
 
 #[inline]
+pub fn only_authenticated(message: &[u8], text: &[u8], required: &[u32], out: &mut [u8]) -> u64 {
+    told(reference::write_only_authenticated(message, 0, text, required, out).map_err(number))
+}
+
+#[inline]
 pub fn read_keys(message: &[u8], table: &mut [u32]) -> u64 {
     told(
         reference::read_encrypted_data_keys_section(message, 0, None, table)

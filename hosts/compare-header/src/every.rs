@@ -2,7 +2,7 @@
 
 use crate::answers::Answers;
 use crate::expected::parts_are;
-use crate::numbers::{numbers, Answer};
+use crate::numbers::{number, numbers, Answer};
 use crate::writes;
 use crate::{reads, requests};
 use bafirolen::{Draft, Mode};
@@ -10,11 +10,11 @@ use generator::fields::{back, front, Fields};
 use generator::image::{self, pairs_length, section_with, Form, Image};
 use generator::large::plain;
 use generator::random::Random;
-use generator::tables::{lend, Lent};
+use generator::tables::{lend, lend_parts, Lent};
 use generator::{Key, Pair};
 
 /// How many answers a call of `pairs` counts, and one of `keys`.
-pub const USES_OF_PAIRS: u64 = 2 + 1 + 2 * 5;
+pub const USES_OF_PAIRS: u64 = 2 + 1 + 1 + 2 * 5;
 pub const USES_OF_KEYS: u64 = 1 + 1 + 2 * 5;
 
 /// Writes fields whose pairs and keys are lent by tables.
@@ -94,11 +94,35 @@ pub fn pairs(random: &mut Random, answers: &mut Answers, pairs: &[Pair], wanted:
     let (answer, out) = writes::write_aad_section(&lent.text, &lent.pairs, &out);
     answers.met(&answer, wanted);
     assert!(wanted != 0 || out == image, "the image of the section");
+    answers.met(&all_required(random, pairs), wanted);
     bodies(random, answers, pairs, &[], wanted);
 }
 
+/// All pairs as what is only authenticated, their keys required in any order.
+pub fn all_required(random: &mut Random, pairs: &[Pair]) -> Answer<usize> {
+    let mut keys: Vec<&[u8]> = pairs.iter().map(|pair| &pair.0[..]).collect();
+    random.shuffle(&mut keys);
+    required(random, pairs, &keys)
+}
+
+/// The pairs with these keys as what is only authenticated, into an output
+/// that just holds them; accepted, they are the image.
+pub fn required(random: &mut Random, pairs: &[Pair], keys: &[&[u8]]) -> Answer<usize> {
+    let section = section_of(pairs).bytes;
+    let image = image::only_authenticated(pairs, keys.iter().copied());
+    let (text, table) = lend_parts(random, keys);
+    let out = vec![0x11; image.len()];
+    let (answer, out) = writes::write_only_authenticated(&section, 0, &text, &table, &out);
+    assert!(
+        answer.is_err() || out == image,
+        "what is only authenticated"
+    );
+    answer
+}
+
 /// A find in the section of pairs: it answers `wanted`, and if that is 0 the
-/// value of the pair that has the key.
+/// value of the pair that has the key. That pair alone is then only
+/// authenticated where the key is required, and none where it isn't found.
 pub fn find(answers: &mut Answers, pairs: &[Pair], key: &[u8], wanted: u32) {
     let image = section_of(pairs).bytes;
     answers.met(&reads::find_value(&image, 0, key), wanted);
@@ -106,6 +130,26 @@ pub fn find(answers: &mut Answers, pairs: &[Pair], key: &[u8], wanted: u32) {
         let pair = pairs.iter().find(|pair| pair.0 == key);
         let (_, value) = pair.expect("a pair with the key");
         assert!(reference::find_part(&image, 0, key) == value, "the value");
+    }
+    // A longer key has no place in a table.
+    if let Ok(length) = u32::try_from(key.len()) {
+        one_required(pairs, key, &[0, length], wanted);
+    }
+}
+
+/// The pair with this key as what is only authenticated; `wanted` is what a
+/// find of the key answers.
+fn one_required(pairs: &[Pair], key: &[u8], table: &[u32], wanted: u32) {
+    let section = section_of(pairs).bytes;
+    let out = vec![0x11; section.len()];
+    let (answer, out) = writes::write_only_authenticated(&section, 0, key, table, &out);
+    match wanted {
+        0 | 29 => {
+            let only = image::only_authenticated(pairs, [key]);
+            assert_eq!(answer, Ok(only.len()));
+            assert!(out.starts_with(&only), "the pair with the key");
+        }
+        _ => assert_eq!(number(&answer), wanted),
     }
 }
 

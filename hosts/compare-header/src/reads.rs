@@ -15,7 +15,7 @@ pub(crate) fn few<T>(lent: &[T]) -> &[T] {
 }
 
 /// A message and a start as a failure shows them.
-fn shown(message: &[u8], start: u64) -> String {
+pub(crate) fn shown_at(message: &[u8], start: u64) -> String {
     let first: Vec<String> = few(message)
         .iter()
         .map(|byte| format!("{byte:02X}"))
@@ -46,7 +46,7 @@ fn same<T: PartialEq + Debug>(
     assert!(
         ours == theirs,
         "{what:?}: {ours:?} against {theirs:?}, {}",
-        shown(message, start)
+        shown_at(message, start)
     );
 }
 
@@ -200,7 +200,7 @@ pub fn find_value(message: &[u8], start: u64, key: &[u8]) -> Answer<Place> {
         Asked(key),
         few(ours),
         few(theirs),
-        shown(message, start)
+        shown_at(message, start)
     );
     copies(message, start, key);
     answer
@@ -248,7 +248,7 @@ pub fn host_answer(message: &[u8], start: u64) -> (u32, u64) {
     assert!(
         ours == theirs,
         "{ours:?} against {theirs:?}, {}",
-        shown(message, start)
+        shown_at(message, start)
     );
     ours
 }

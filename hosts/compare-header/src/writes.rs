@@ -3,7 +3,7 @@
 use crate::guarded::Guarded;
 use crate::kept::Kept;
 use crate::numbers::{refused, their_numbers, Answer};
-use crate::reads::few;
+use crate::reads::{few, shown_at};
 use bafirolen::{Draft, Refusal};
 
 /// A draft with the fronts of what it lends, as a failure shows it.
@@ -82,6 +82,30 @@ pub fn write_header_auth_tag(
         },
         |out| bafirolen::write_header_auth_tag(suite, iv, tag, out),
         |out| reference::write_header_auth_tag(suite, iv, tag, out),
+    )
+}
+
+/// The pairs of a section that are required, to be authenticated only.
+pub fn write_only_authenticated(
+    message: &[u8],
+    start: u64,
+    text: &[u8],
+    required: &[u32],
+    out: &[u8],
+) -> (Answer<usize>, Vec<u8>) {
+    both(
+        out,
+        ([message, text], [required]),
+        || {
+            format!(
+                "required {:?} of {:02X?}, {}",
+                few(required),
+                few(text),
+                shown_at(message, start)
+            )
+        },
+        |out| bafirolen::write_only_authenticated(message, start, text, required, out),
+        |out| reference::write_only_authenticated(message, start, text, required, out),
     )
 }
 

@@ -51,9 +51,7 @@ fn differing_behind_the_front() {
     for front in FRONTS {
         for (count, digits) in sizes(front) {
             let mut pairs = agreeing(front, digits, count);
-            for last in (1..count).rev() {
-                pairs.swap(last, random.index(last + 1));
-            }
+            random.shuffle(&mut pairs);
             every::pairs(&mut random, &mut answers, &pairs, 0);
             found += find_each(&mut answers, &pairs, front);
             requests += 1;

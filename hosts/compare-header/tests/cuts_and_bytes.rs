@@ -2,7 +2,7 @@
 //! other, and read from starts up to the ends of 64 bits.
 
 use bafirolen::{Mode, Request, Which};
-use compare_header::{compared, reads, request};
+use compare_header::{compared, reads, request, writes};
 use generator::headers::samples;
 
 const REQUESTS: [Request; 6] = [
@@ -14,7 +14,7 @@ const REQUESTS: [Request; 6] = [
     request(Which::V2Only, Mode::Strict, None),
 ];
 
-/// All readers on one message and start; answers how many there were.
+/// All that read, on one message and start; answers how many there were.
 fn every_reader(message: &[u8], start: u64) -> u64 {
     let (pairs, keys) = ([7; 10], [9; 13]);
     for request in REQUESTS {
@@ -32,8 +32,12 @@ fn every_reader(message: &[u8], start: u64) -> u64 {
     for key in [&b"lang"[..], b"a", b"ab", b""] {
         let _ = reads::find_value(message, start, key);
     }
+    for room in [0, 12, 40] {
+        let (text, required, out) = (b"langab", [4, 2, 0, 4, 4, 1], vec![0x11; room]);
+        let _ = writes::write_only_authenticated(message, start, text, &required, &out);
+    }
     reads::host_answer(message, start);
-    REQUESTS.len() as u64 + 12
+    REQUESTS.len() as u64 + 15
 }
 
 /// Every start includes those of the two sections.

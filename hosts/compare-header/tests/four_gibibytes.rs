@@ -2,13 +2,13 @@
 
 use bafirolen::{Mode, Request};
 use compare_header::numbers::number;
-use compare_header::{compared, reads};
+use compare_header::{compared, reads, writes};
 use generator::headers::header_h_at_four_gibibytes;
 
 const GREATEST: usize = u32::MAX as usize;
 
 /// Every reader on one message and start; answers their numbers.
-fn every_reader(message: &[u8], start: u64) -> [u32; 6] {
+fn every_reader(message: &[u8], start: u64) -> [u32; 7] {
     let request = Request::default().strict().at_most(1);
     [
         number(&reads::read_aad_section(message, start, Mode::Tolerant, &[7; 4]).0),
@@ -17,6 +17,7 @@ fn every_reader(message: &[u8], start: u64) -> [u32; 6] {
         number(&reads::read_header_auth_tag(message, start, 0x0178)),
         number(&reads::find_value(message, start, b"lang")),
         reads::host_answer(message, start).0,
+        number(&writes::write_only_authenticated(message, start, b"lang", &[0, 4], &[7; 12]).0),
     ]
 }
 
@@ -40,14 +41,15 @@ fn messages_of_four_gibibytes() {
     let mut count = 0;
     for start in starts {
         // One byte too long: nothing is read, whatever the start.
-        assert_eq!(every_reader(&message, start), [1; 6]);
+        assert_eq!(every_reader(&message, start), [1; 7]);
         // At the greatest length all is read, and a cut is a shortage.
         every_reader(&message[..GREATEST], start);
         every_reader(&message[..GREATEST - 1], start);
-        count += 18;
+        count += 21;
     }
     let whole = &message[..GREATEST];
     assert_eq!(every_reader(whole, at as u64)[2], 0);
-    assert_eq!(every_reader(whole, at as u64 + 20)[4], 0);
-    compared(count + 2, "reads of messages of 4 GiB");
+    let of_the_context = every_reader(whole, at as u64 + 20);
+    assert_eq!((of_the_context[4], of_the_context[6]), (0, 0));
+    compared(count + 3, "reads of messages of 4 GiB");
 }

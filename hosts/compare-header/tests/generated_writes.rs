@@ -10,6 +10,7 @@ use compare_header::{compared, Coverage};
 use generator::auth_cases::auth_write_case;
 use generator::body_cases::body_case;
 use generator::body_write_cases::body_write_case;
+use generator::only_cases::only_case;
 use generator::write_cases::{write_keys_case, write_section_case};
 use generator::Expected;
 
@@ -88,6 +89,27 @@ fn authentication_records() {
     coverage.print();
     coverage.assert_complete(["write auth"]);
     compared(count, "writes of authentication records");
+}
+
+#[test]
+fn only_authenticated() {
+    let mut coverage = Coverage::default();
+    let mut count = 0;
+    for seed in seeds(600_000) {
+        let case = only_case(seed);
+        let (message, text) = (&case.message, case.text());
+        let (answer, out) =
+            writes::write_only_authenticated(message, case.start, text, &case.required, &case.out);
+        coverage.count("write only authenticated", number(&answer));
+        as_expected(seed, &answer, case.expected);
+        if let (Expected::Accepted, Ok(length)) = (case.expected, answer) {
+            assert_eq!(out[..length], case.image, "seed {seed}");
+        }
+        count += 1;
+    }
+    coverage.print();
+    coverage.assert_complete(["write only authenticated"]);
+    compared(count, "writes of what is only authenticated");
 }
 
 /// Into an output that the listing fills, and into one that it just doesn't.

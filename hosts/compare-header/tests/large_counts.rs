@@ -3,7 +3,7 @@
 
 use bafirolen::Mode;
 use compare_header::answers::Answers;
-use compare_header::{reads, requests};
+use compare_header::{reads, requests, writes};
 use generator::fields::front;
 use generator::image::{keys_with, section, section_with, Form};
 use generator::large::{agreeing, plain};
@@ -132,11 +132,14 @@ fn of_pairs() {
             }
             let answer = reads::find_value(&section, 0, b"a0");
             answers.expected(&answer, number, position);
+            let (answer, _) =
+                writes::write_only_authenticated(&section, 0, b"a0", &[0, 2], &[7; 10]);
+            answers.expected(&answer, number, position);
             in_bodies(&mut answers, &section, number, position);
         }
     }
-    // Seven reads, and eight of bodies; 13 of the 21 hold a second empty pair.
-    let each = 15 * COUNTS.len() as u64;
+    // Eight of the section, and eight of bodies; 13 of the 21 hold a second empty pair.
+    let each = 16 * COUNTS.len() as u64;
     let wanted = [(2, (3 * 8 - 1) * each), (8, each), (12, 3 * 13 * each)];
     answers.assert_are("context sections with large counts", &wanted);
 }

@@ -4,15 +4,15 @@
 use bafirolen::Mode;
 use compare_header::numbers::number;
 use compare_header::scale::seeds;
-use compare_header::{compared, reads, writes};
+use compare_header::{compared, every, reads, writes};
 use generator::image::{section, Form};
 use generator::many::{pairs, MOST, ORDERS};
 use generator::random::Random;
 use generator::tables::lend;
 use generator::Pair;
 
-/// Reads, finds the first, the last and none, and writes; answers how many
-/// comparisons there were.
+/// Reads, finds the first, the last and none, and writes, the section and what
+/// is only authenticated of it; answers how many comparisons there were.
 fn agree(random: &mut Random, pairs: &[Pair], wanted: u32) -> u64 {
     let image = section(pairs, Form::Today).bytes;
     let table = vec![3; 4 * pairs.len()];
@@ -27,7 +27,8 @@ fn agree(random: &mut Random, pairs: &[Pair], wanted: u32) -> u64 {
     let (answer, out) = writes::write_aad_section(&lent.text, &lent.pairs, &out);
     assert_eq!(number(&answer), wanted);
     assert!(wanted != 0 || out == image);
-    5
+    assert_eq!(number(&every::all_required(random, pairs)), wanted);
+    6
 }
 
 /// As many two-byte keys as a section takes, and then one of them again: the

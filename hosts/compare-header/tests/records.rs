@@ -7,6 +7,7 @@ use compare_header::scale::seeds;
 use generator::auth_cases::auth_case;
 use generator::body_cases::body_case;
 use generator::key_cases::key_case;
+use generator::only_cases::only_case;
 use generator::random::Random;
 use generator::section_cases::section_case;
 use generator::write_cases::write_section_case;
@@ -213,6 +214,16 @@ fn bodies() {
     compared(count, "records of bodies");
 }
 
+/// The record of what was written or refused.
+fn written(answer: Result<u64, reference::Refusal>) -> BafirolenWritten {
+    let (number, position) = refusal(&answer);
+    BafirolenWritten {
+        number,
+        position,
+        length: answer.unwrap_or(0),
+    }
+}
+
 #[test]
 fn writes() {
     let mut count = 0;
@@ -227,15 +238,41 @@ fn writes() {
             bafirolen_write_aad_section(text.as_ptr(), text.len(), table, len, out, out_len)
         };
         let wanted = reference::write_aad_section(text, pairs, &mut theirs);
-        let (number, position) = refusal(&wanted);
-        let wanted = BafirolenWritten {
-            number,
-            position,
-            length: wanted.unwrap_or(0),
-        };
-        assert_eq!(written, wanted, "seed {seed}");
+        assert_eq!(written, self::written(wanted), "seed {seed}");
         assert!(ours == theirs, "seed {seed}");
         count += 1;
     }
     compared(count, "records of writes");
+}
+
+/// A shortage has a position here too.
+#[test]
+fn only_authenticated() {
+    let mut count = 0;
+    for seed in seeds(50_000) {
+        let case = only_case(seed);
+        let (message, text, required) = (&case.message, case.text(), &case.required);
+        let (mut ours, mut theirs) = (case.out.clone(), case.out.clone());
+        // SAFETY: pointers and lengths are those of vectors, the output's apart
+        // from the others, which are only read.
+        let written = unsafe {
+            bafirolen_write_only_authenticated(
+                message.as_ptr(),
+                message.len(),
+                case.start,
+                text.as_ptr(),
+                text.len(),
+                required.as_ptr(),
+                required.len(),
+                ours.as_mut_ptr(),
+                ours.len(),
+            )
+        };
+        let wanted =
+            reference::write_only_authenticated(message, case.start, text, required, &mut theirs);
+        assert_eq!(written, self::written(wanted), "seed {seed}");
+        assert!(ours == theirs, "seed {seed}");
+        count += 1;
+    }
+    compared(count, "records of what is only authenticated");
 }

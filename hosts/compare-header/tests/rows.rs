@@ -5,7 +5,8 @@ use bafirolen::{Draft, Mode, Which};
 use compare_header::numbers::{answered, numbers, Answer};
 use compare_header::writes;
 use compare_header::{compared, reads, request};
-use generator::rows::{header_writes, headers, listings, records, section_writes, sections, sizes};
+use generator::rows::{header_writes, headers, listings, only_authenticated};
+use generator::rows::{records, section_writes, sections, sizes};
 use generator::rows::{Asked, Body, Codec, Lent, Place, Record, Refused, Section, Written};
 
 /// Hands each request to both; the tables and outputs afterwards are both's.
@@ -140,6 +141,18 @@ impl Codec for Both {
     fn write_record(&self, suite: u32, iv: &[u8], tag: &[u8], out: &mut [u8]) -> Written {
         written(writes::write_header_auth_tag(suite, iv, tag, out), out)
     }
+
+    fn write_only_authenticated(
+        &self,
+        message: &[u8],
+        start: u64,
+        text: &[u8],
+        required: &[u32],
+        out: &mut [u8],
+    ) -> Written {
+        let answer = writes::write_only_authenticated(message, start, text, required, out);
+        written(answer, out)
+    }
 }
 
 /// None of the rows that a table had is lost.
@@ -189,9 +202,20 @@ fn authentication_records() {
 }
 
 #[test]
+fn only_authenticated_pairs() {
+    let rows = only_authenticated::one_section(&Both)
+        + only_authenticated::empty_contexts_and_parts(&Both)
+        + only_authenticated::the_section_is_refused_first(&Both)
+        + only_authenticated::the_longest_image(&Both)
+        + only_authenticated::the_message_as_the_text(&Both);
+    let wanted = 36 + 9 + 17 * 5 * 2 + 5 + 7;
+    held(rows, wanted, "rows of pairs only authenticated");
+}
+
+#[test]
 fn messages_of_four_gibibytes() {
     let rows = sizes::messages_of_four_gibibytes(&Both);
-    held(rows, 5 * 7 + 4, "rows of messages of 4 GiB");
+    held(rows, 5 * 8 + 5, "rows of messages of 4 GiB");
 }
 
 /// The listing by the exported operation, in an output that is long enough.

@@ -5,7 +5,7 @@ use bafirolen::Mode;
 use compare_header::answers::Answers;
 use compare_header::every::{parts_of_keys, parts_of_pairs};
 use compare_header::expected::parts_are;
-use compare_header::{reads, requests};
+use compare_header::{reads, requests, writes};
 use generator::fields::Fields;
 use generator::image::{keys, section, Form, Image};
 use generator::large::{agreeing, plain, zeros};
@@ -39,7 +39,7 @@ fn outcome(image: &Image, start: u64, message: &[u8]) -> (u32, u64) {
 
 /// How many answers `read_all` counts.
 const BODIES: u64 = 5;
-const CONTEXTS: u64 = 3;
+const CONTEXTS: u64 = 4;
 const KEYS: u64 = 1;
 
 /// Every reader of the header at the start and of its sections.
@@ -67,6 +67,9 @@ fn read_all(answers: &mut Answers, message: &[u8], start: u64, fields: &Fields) 
         answers.expected(&answer, number, position);
     }
     let answer = reads::find_value(message, at, &fields.pairs[1].0);
+    answers.expected(&answer, number, position);
+    let text = [&fields.pairs[1].0[..], &fields.pairs[0].0].concat();
+    let (answer, _) = writes::write_only_authenticated(message, at, &text, &[0, 3, 3, 3], &[7; 20]);
     answers.expected(&answer, number, position);
 
     let at = start + keys_at;

@@ -5,7 +5,7 @@ use bafirolen::Draft;
 use compare_header::answers::Answers;
 use compare_header::numbers::numbers;
 use compare_header::writes;
-use generator::image::{keys, section, Form};
+use generator::image::{keys, only_authenticated, section, Form};
 use generator::large::{plain, zeros};
 use generator::{Key, Pair};
 
@@ -167,4 +167,57 @@ fn the_longest_across_the_bound() {
     write_keys(&mut answers, &text, &[0, 0, start, 65_536, 0, 0], 27);
     let wanted = [(13, 3), (27, 6)];
     answers.assert_are("writes of the longest parts across 4 GiB", &wanted);
+}
+
+/// A section of four pairs whose keys stand at the text's end, across the
+/// bound, before the bound, and at the text's front.
+fn section_of_parts(text: &[u8]) -> (Vec<u8>, [Pair; 4]) {
+    let places = [LAST, ACROSS, (0xFFFF_FFF0, 0x10), (0, 2)];
+    let pairs = places.map(|place| (part(text, place), vec![b'v'; 3]));
+    (section(&pairs, Form::Today).bytes, pairs)
+}
+
+/// How much of the text is lent, the required places, and the answer.
+type Required<'a> = (usize, &'a [(u32, u32)], u32);
+
+/// Keys that are required by places across the bound; a place of 4 GiB is
+/// inside and no key.
+#[test]
+fn required_across_the_bound() {
+    let text = text();
+    let (section, pairs) = section_of_parts(&text);
+    let mut answers = Answers::default();
+    let rows: [Required; 14] = [
+        (BOUND + 100, &[ACROSS], 0),
+        (BOUND + 16, &[ACROSS, (0, 2), ACROSS], 0),
+        (BOUND + 15, &[ACROSS], 31),
+        (BOUND, &[(0, 2), ACROSS], 31),
+        (BOUND - 1, &[ACROSS, (0, 2)], 31),
+        (BOUND + 100, &[LAST, ACROSS, (0, 2), (0xFFFF_FFF0, 0x10)], 0),
+        (BOUND + 99, &[LAST], 31),
+        (BOUND, &[(0xFFFF_FFF0, 0x10)], 0),
+        (BOUND - 1, &[(0xFFFF_FFFF, 1)], 31),
+        (BOUND - 1, &[(0xFFFF_FFFF, 0), (0, 0xFFFF_FFFF)], 0),
+        (BOUND, &[(1, 0xFFFF_FFFF)], 0),
+        (BOUND, &[(2, 0xFFFF_FFFF)], 31),
+        (BOUND + 100, &[(101, 0xFFFF_FFFF)], 0),
+        (BOUND + 100, &[(102, 0xFFFF_FFFF)], 31),
+    ];
+    for (length, places, wanted) in rows {
+        let text = &text[..length];
+        let required: Vec<u32> = places.iter().flat_map(|&(at, len)| [at, len]).collect();
+        let out = [0x11; 300];
+        let (answer, out) = writes::write_only_authenticated(&section, 0, text, &required, &out);
+        answers.met(&answer, wanted);
+        if let Ok(length) = answer {
+            let keys = places
+                .iter()
+                .map(|&(at, len)| &text[at as usize..][..len as usize]);
+            assert!(
+                out[..length] == only_authenticated(&pairs, keys),
+                "{places:?}"
+            );
+        }
+    }
+    answers.assert_are("required places across 4 GiB", &[(0, 7), (31, 7)]);
 }

@@ -1,9 +1,11 @@
 //! Places whose start and length are each 32-bit numbers and whose sum is not:
-//! cut to 32 bits it would lie inside the text. Each is outside (26).
+//! cut to 32 bits it would lie inside the text. Each is outside (26, and 31 of
+//! required keys).
 
 use compare_header::answers::Answers;
 use compare_header::every::write_body;
 use compare_header::writes;
+use generator::headers::hex;
 use generator::large::plain;
 use generator::tables::Lent;
 
@@ -120,4 +122,32 @@ fn with_a_later_fault() {
     }
     let requests = 2 * WRAPPING.len() as u64;
     answers.assert_are("writes with a later fault", &[(26, 8 * requests)]);
+}
+
+/// What is only authenticated, of a section with one pair whose key is the
+/// first letter: each of three required places in turn, in a text of `TEXT`
+/// letters and in an empty one, with room and without.
+#[test]
+fn of_required_keys() {
+    let section = hex("00 08 00 01 00 01 61 00 01 62");
+    let text = vec![b'a'; TEXT as usize];
+    let write = |text: &[u8], required: &[u32], room: usize| {
+        writes::write_only_authenticated(&section, 0, text, required, &vec![0x11; room]).0
+    };
+    let mut answers = Answers::default();
+    for (start, length) in WRAPPING {
+        for place in 0..3 {
+            let mut required = [0, 1, TEXT, 0, 7, 3];
+            answers.met(&write(&text, &required, 8), 0);
+            answers.met(&write(&text, &required, 7), 28);
+            required[2 * place..2 * place + 2].copy_from_slice(&[start, length]);
+            for room in [0, 8, 2_000] {
+                answers.met(&write(&text, &required, room), 31);
+            }
+        }
+        answers.met(&write(&[], &[start, length], 8), 31);
+    }
+    let each = WRAPPING.len() as u64;
+    let wanted = [(0, 3 * each), (28, 3 * each), (31, 10 * each)];
+    answers.assert_are("required places whose sum wraps", &wanted);
 }

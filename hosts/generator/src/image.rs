@@ -2,6 +2,7 @@
 
 use crate::random::Random;
 use crate::{Key, Pair};
+use std::collections::BTreeSet;
 
 /// Bytes, and the place where each read in turn ends. A message cut to `c`
 /// bytes is short at the first of these above `c`.
@@ -97,6 +98,30 @@ pub fn keys_with(keys: &[Key], count: u16) -> Image {
 /// A key section as stored.
 pub fn keys(keys: &[Key]) -> Image {
     keys_with(keys, keys.len() as u16)
+}
+
+/// The pairs whose keys are required, as written to be authenticated only:
+/// nothing where there are none, otherwise their count and then their entries
+/// in the order of keys.
+pub fn only_authenticated<'a>(
+    pairs: &[Pair],
+    required: impl IntoIterator<Item = &'a [u8]>,
+) -> Vec<u8> {
+    let required: BTreeSet<&[u8]> = required.into_iter().collect();
+    let mut wanted: Vec<&Pair> = pairs
+        .iter()
+        .filter(|(key, _)| required.contains(&key[..]))
+        .collect();
+    if wanted.is_empty() {
+        return Vec::new();
+    }
+    wanted.sort();
+    let mut image = Image::default();
+    image.part(&(wanted.len() as u16).to_be_bytes());
+    for (key, value) in wanted {
+        image.entry(key).entry(value);
+    }
+    image.bytes
 }
 
 /// Changes the stored length of one of these entries, which stand one behind

@@ -17,6 +17,7 @@ pub mod key_cases;
 pub mod large;
 pub mod lines;
 pub mod many;
+pub mod only_cases;
 pub mod random;
 pub mod rows;
 pub mod section_cases;

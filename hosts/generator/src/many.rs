@@ -39,11 +39,7 @@ pub fn pairs(
     match order {
         Order::Ascending => {}
         Order::Descending => numbers.reverse(),
-        Order::Shuffled => {
-            for last in (1..count).rev() {
-                numbers.swap(last, random.index(last + 1));
-            }
-        }
+        Order::Shuffled => random.shuffle(&mut numbers),
     }
     numbers
         .into_iter()

@@ -60,6 +60,13 @@ impl Random {
         from[self.index(from.len())]
     }
 
+    /// Puts a list into any order.
+    pub fn shuffle<T>(&mut self, list: &mut [T]) {
+        for last in (1..list.len()).rev() {
+            list.swap(last, self.index(last + 1));
+        }
+    }
+
     /// A length: mostly small, sometimes up to `most`.
     pub fn length(&mut self, most: usize) -> usize {
         let most = most as u64;

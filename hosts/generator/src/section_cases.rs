@@ -1,8 +1,8 @@
 //! Requests to read a context section, or to find a value in one.
 
 use crate::random::Random;
-use crate::sections::{build, kind, Kind, Verdict};
-use crate::surroundings::{cut, start_past, start_too_large, table, whole};
+use crate::sections::{build, kind, Kind, Section, Verdict};
+use crate::surroundings::{cut, start_past, start_too_large, table, whole, Placed};
 use crate::texts::{bad_text, text};
 use crate::{Expected, Pair};
 
@@ -23,10 +23,9 @@ pub struct SectionCase {
     pub at: usize,
 }
 
-/// The request of a seed.
-pub fn section_case(seed: u64) -> SectionCase {
-    let mut random = Random::new(seed);
-    let random = &mut random;
+/// A section, where it stands, and what a tolerant reader whose table is long
+/// enough answers to it.
+pub fn placed_section(random: &mut Random) -> (Section, Placed, Expected) {
     let placing = random.below(16);
     let kind = match placing {
         0..=5 if random.one_in(4) => Kind::OldForm,
@@ -40,14 +39,22 @@ pub fn section_case(seed: u64) -> SectionCase {
         5 => start_too_large(random, &section.image),
         _ => whole(random, &section.image, 1),
     };
-    let strict = random.one_in(2);
-    let (table, fits) = table(random, 4 * section.pairs.len(), true);
     let tolerant = match (placed.fault, section.verdict) {
         (Some((number, position)), _) => Expected::Refused(number, position),
         (None, Verdict::Accepted | Verdict::Old) => Expected::Accepted,
         (None, Verdict::Refused(number)) => Expected::Refused(number, 0),
         (None, Verdict::Open) => Expected::Open,
     };
+    (section, placed, tolerant)
+}
+
+/// The request of a seed.
+pub fn section_case(seed: u64) -> SectionCase {
+    let mut random = Random::new(seed);
+    let random = &mut random;
+    let (section, placed, tolerant) = placed_section(random);
+    let strict = random.one_in(2);
+    let (table, fits) = table(random, 4 * section.pairs.len(), true);
     let expected = match tolerant {
         Expected::Accepted if strict && section.verdict == Verdict::Old => Expected::Refused(21, 0),
         Expected::Accepted if !fits => Expected::Refused(22, 0),
@@ -74,7 +81,7 @@ pub fn section_case(seed: u64) -> SectionCase {
 
 /// A key to ask for, and the pair that has it. Asked for are keys that are
 /// there, ones that begin them or that they begin, and bytes of any kind.
-fn asked(random: &mut Random, pairs: &[Pair]) -> (Vec<u8>, Option<usize>) {
+pub fn asked(random: &mut Random, pairs: &[Pair]) -> (Vec<u8>, Option<usize>) {
     let mut key = match random.below(8) {
         0 => text(random, 12),
         1 => bad_text(random),

@@ -2,7 +2,8 @@
 
 use crate::random::Random;
 
-/// Refusal 26: a table that isn't in fours or sixes, or a place outside.
+/// Refusal 26, and 31 of required keys: a table that isn't in fours, sixes or
+/// twos, or a place outside.
 pub fn misplace(random: &mut Random, table: &mut Vec<u32>, numbers: usize, text: &[u8]) {
     if table.is_empty() || random.one_in(2) {
         let short = !table.is_empty() && random.one_in(2);

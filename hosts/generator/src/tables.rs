@@ -21,14 +21,26 @@ enum Layout {
     Shared,
 }
 
-/// Lays out pairs and keys, in order or from the back.
+/// Lays out pairs and keys.
 pub fn lend(random: &mut Random, pairs: &[Pair], keys: &[Key]) -> Lent {
-    let layout = random.pick(&[Layout::Packed, Layout::Gaps, Layout::Shared]);
     let parts: Vec<&[u8]> = pairs
         .iter()
         .flat_map(|(key, value)| [key.as_slice(), value.as_slice()])
         .chain(keys.iter().flatten().map(|part| part.as_slice()))
         .collect();
+    let (text, numbers) = lend_parts(random, &parts);
+    let split = 4 * pairs.len();
+    Lent {
+        text,
+        pairs: numbers[..split].to_vec(),
+        keys: numbers[split..].to_vec(),
+    }
+}
+
+/// Lays out parts, in order or from the back: the text, and a table with the
+/// place of each.
+pub fn lend_parts(random: &mut Random, parts: &[&[u8]]) -> (Vec<u8>, Vec<u32>) {
+    let layout = random.pick(&[Layout::Packed, Layout::Gaps, Layout::Shared]);
     let mut places = vec![(0u32, 0u32); parts.len()];
     let mut order: Vec<usize> = (0..parts.len()).collect();
     if random.one_in(3) {
@@ -45,16 +57,11 @@ pub fn lend(random: &mut Random, pairs: &[Pair], keys: &[Key]) -> Lent {
         let rest = random.length(20);
         text.extend(random.bytes(rest));
     }
-    let numbers: Vec<u32> = places
+    let numbers = places
         .iter()
         .flat_map(|&(start, length)| [start, length])
         .collect();
-    let split = 4 * pairs.len();
-    Lent {
-        text,
-        pairs: numbers[..split].to_vec(),
-        keys: numbers[split..].to_vec(),
-    }
+    (text, numbers)
 }
 
 fn put(random: &mut Random, text: &mut Vec<u8>, part: &[u8], layout: Layout) -> u32 {

@@ -23,6 +23,8 @@ pub struct WriteCase {
 /// whether it holds `length`.
 pub fn output(random: &mut Random, length: usize) -> (Vec<u8>, bool) {
     let room = match random.below(12) {
+        // No output is too short for no bytes.
+        0 | 1 if length == 0 => 0,
         0 => length - 1,
         1 => random.index(length),
         2..=6 => length,

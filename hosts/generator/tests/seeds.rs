@@ -1,6 +1,7 @@
 //! Equal seeds give equal requests; different ones, nearly always, others.
 
-use generator::{auth_cases, body_cases, body_write_cases, key_cases, section_cases, write_cases};
+use generator::{auth_cases, body_cases, body_write_cases, key_cases};
+use generator::{only_cases, section_cases, write_cases};
 use std::collections::HashSet;
 use std::fmt::Debug;
 
@@ -31,4 +32,5 @@ fn seeds_determine_requests() {
     determined("write_keys_case", write_cases::write_keys_case);
     determined("body_write_case", body_write_cases::body_write_case);
     determined("auth_write_case", auth_cases::auth_write_case);
+    determined("only_case", only_cases::only_case);
 }

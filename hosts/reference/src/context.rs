@@ -50,7 +50,8 @@ impl Section {
         }
     }
 
-    fn places<'a>(&self, message: &'a [u8]) -> impl Iterator<Item = (Place, Place)> + 'a {
+    /// The places of each pair's key and value, in the section's order.
+    pub fn places<'a>(&self, message: &'a [u8]) -> impl Iterator<Item = (Place, Place)> + 'a {
         let mut at = self.first_pair;
         (0..self.count).map_while(move |_| {
             let key = read_entry(message, at).ok()?;

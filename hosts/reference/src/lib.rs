@@ -18,6 +18,7 @@ pub mod context_write;
 pub mod keys;
 pub mod leaves;
 pub mod listing;
+pub mod only_authenticated;
 pub mod refusal;
 pub mod seen;
 pub mod suites;
@@ -35,6 +36,7 @@ pub use leaves::{
     write_entry, write_u16, write_u32, Place,
 };
 pub use listing::{host_answer, listing, write_listing};
+pub use only_authenticated::write_only_authenticated;
 pub use refusal::Refusal;
 pub use suites::{lookup, Suite, SUITES};
 pub use utf8::is_utf8;

@@ -25,6 +25,13 @@ pub(crate) fn text_part<'a>(text: &'a [u8], place: &[u32]) -> &'a [u8] {
     &text[start..start + place[1] as usize]
 }
 
+/// Whether a place lies inside the text. One of no bytes may stand at its end;
+/// the sum of two 32-bit numbers needs more than 32 bits.
+#[inline]
+pub(crate) fn inside(text: &[u8], place: &[u32]) -> bool {
+    u64::from(place[0]) + u64::from(place[1]) <= text.len() as u64
+}
+
 /// Refusals 26 and 27 of a writer's table: the whole of 26 comes first.
 /// Answers the bytes its entries take when written.
 pub(crate) fn test_table(text: &[u8], table: &[u32], numbers: usize) -> Result<u64, Refusal> {
@@ -35,7 +42,7 @@ pub(crate) fn test_table(text: &[u8], table: &[u32], numbers: usize) -> Result<u
     let mut total = 0u64;
     for place in table.chunks_exact(2) {
         let len = u64::from(place[1]);
-        if u64::from(place[0]) + len > text.len() as u64 {
+        if !inside(text, place) {
             return Err(Refusal::of(PLACES));
         }
         longest = longest.max(len);

@@ -3,14 +3,17 @@
 use crate::{listed, say};
 use std::collections::{BTreeMap, BTreeSet};
 
+/// The refusals are 1 to 31.
+const NUMBERS: usize = 32;
+
 /// Answers counted by operation; column 0 is acceptance.
 #[derive(Default)]
-pub struct Coverage(BTreeMap<&'static str, [u64; 31]>);
+pub struct Coverage(BTreeMap<&'static str, [u64; NUMBERS]>);
 
 impl Coverage {
     /// An answer of an operation: the refusal's number, or 0.
     pub fn count(&mut self, operation: &'static str, number: u32) {
-        self.0.entry(operation).or_insert([0; 31])[number as usize] += 1;
+        self.0.entry(operation).or_insert([0; NUMBERS])[number as usize] += 1;
     }
 
     /// One line an operation: how often each refusal came about.

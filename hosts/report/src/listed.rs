@@ -2,10 +2,10 @@
 
 use std::collections::BTreeSet;
 
-/// The refusals that document 01 lists for each operation, in its order of
-/// tests; each stands where it comes first, such as 2, which is tested of each
+/// The refusals that document 01, or the change request that adds it, lists
+/// for each operation, in its order of tests; each stands where it comes first, such as 2, which is tested of each
 /// part in turn.
-pub const LISTED: [(&str, &[u32]); 16] = [
+pub const LISTED: [(&str, &[u32]); 17] = [
     (
         "read section tolerant",
         &[1, 2, 8, 9, 10, 11, 12, 13, 14, 22],
@@ -15,6 +15,10 @@ pub const LISTED: [(&str, &[u32]); 16] = [
         &[1, 2, 8, 21, 9, 10, 11, 12, 13, 14, 22],
     ),
     ("find", &[1, 2, 8, 9, 10, 11, 12, 13, 14, 29]),
+    (
+        "write only authenticated",
+        &[1, 2, 8, 9, 10, 11, 12, 13, 14, 31, 28],
+    ),
     ("read keys", &[1, 2, 15, 16, 23]),
     (
         "read body tolerant",

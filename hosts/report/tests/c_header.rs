@@ -18,11 +18,11 @@ fn the_numbers_of_refusals() {
                 .expect("a number")
         })
         .collect();
-    assert!(numbers.into_iter().eq(0..=30));
+    assert!(numbers.into_iter().eq(0..=31));
 }
 
 /// Each function that refuses, and the operations that its list is of.
-const FUNCTIONS: [(&str, &[&str]); 12] = [
+const FUNCTIONS: [(&str, &[&str]); 13] = [
     ("bafirolen_header_number", &["read body tolerant"]),
     ("bafirolen_read_header_body", &BODY_READERS),
     (
@@ -40,6 +40,10 @@ const FUNCTIONS: [(&str, &[&str]); 12] = [
     ),
     ("bafirolen_write_header_auth_tag", &["write auth"]),
     ("bafirolen_write_header_body", &["write body"]),
+    (
+        "bafirolen_write_only_authenticated",
+        &["write only authenticated"],
+    ),
     ("bafirolen_write_listing", &["write listing"]),
 ];
 

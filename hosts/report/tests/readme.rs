@@ -7,12 +7,13 @@ use std::collections::BTreeSet;
 const README: &str = include_str!("../../../README.md");
 
 /// A column of the table, and the operations that it is of.
-const COLUMNS: [(&str, &[&str]); 10] = [
+const COLUMNS: [(&str, &[&str]); 11] = [
     ("context", &["read section tolerant", "read section strict"]),
     ("keys", &["read keys"]),
     ("body", &BODY_READERS),
     ("record", &["read auth"]),
     ("find", &["find"]),
+    ("only authenticated", &["write only authenticated"]),
     ("write context", &["write section"]),
     ("write keys", &["write keys"]),
     ("write body", &["write body"]),
@@ -52,7 +53,7 @@ fn the_table_of_refusals() {
         .map(cells)
         .collect();
     let numbers: Vec<u32> = rows.iter().map(|row| row[0].parse().unwrap()).collect();
-    assert!(numbers.iter().copied().eq(1..=30));
+    assert!(numbers.iter().copied().eq(1..=31));
     for (at, (_, operations)) in COLUMNS.iter().enumerate() {
         for operation in *operations {
             let listed = LISTED.iter().find(|(name, _)| name == operation);

@@ -1,6 +1,7 @@
 //! Context sections, against the separate implementation.
 
 use super::lists::{lists, rotation, varied};
+use super::required;
 use crate::answer::agreed;
 use crate::table::Table;
 use crate::{ours, theirs};
@@ -30,6 +31,7 @@ pub fn rows(table: &mut Table) {
     reads(table);
     finds(table);
     writes(table);
+    required::rows(table);
 }
 
 fn reads(table: &mut Table) {
@@ -92,7 +94,7 @@ fn name(order: Order) -> &'static str {
     }
 }
 
-fn counted(count: usize) -> String {
+pub fn counted(count: usize) -> String {
     format!("{count} pair{}", if count == 1 { "" } else { "s" })
 }
 

@@ -5,6 +5,7 @@ mod context;
 mod keys;
 mod leaves;
 mod lists;
+mod required;
 
 use crate::table::Table;
 
@@ -19,7 +20,7 @@ pub const GROUPS: &[Group] = &[
     ),
     (
         "context",
-        "context sections read and written, by their pairs",
+        "context sections read, written and authenticated, by their pairs",
         context::rows,
     ),
     (

@@ -26,6 +26,7 @@ pub const NAMED: &[(&str, &str, &str)] = &[
     ("26 keys in sixes", "26 key place", "one test"),
     ("27 pair count", "27 pair part", "one test"),
     ("27 key count", "27 key part", "one test"),
+    ("31 required in twos", "31 required place", "one test"),
 ];
 
 /// The same of faults that others stand between.
@@ -70,6 +71,8 @@ pub fn apart(first: &str, second: &str) -> Option<&'static str> {
         (2, 2) if first.strip_suffix(" length") == Some(second) => Some(LENGTH),
         (2, 2) if second == "2 whole section" => Some(LENGTH),
         (2, 2) => None,
+        // The required table is no part of the message.
+        (2, 31) => None,
         (2, _) => Some(CUT),
         (8 | 21, 2) if in_a_pair(second) => Some(EMPTY),
         _ => NAMED

@@ -1,11 +1,12 @@
-//! The sections alone, finding, copying, and the authentication record.
+//! The sections alone, finding, copying, what is only authenticated, and the
+//! authentication record.
 
 use super::every_pair::{read, record, Listed, Names};
 use super::sections::{self, key_table, pair_table, too_large};
 use bafirolen::Mode;
 use compare_header::numbers::answered;
-use compare_header::{reads, Coverage};
-use generator::faults::{ReadDraft, RecordDraft};
+use compare_header::{reads, writes, Coverage};
+use generator::faults::{ReadDraft, RecordDraft, REQUIRED_TEXT};
 
 /// Read a context section.
 fn context(mode: Mode) -> Listed<ReadDraft> {
@@ -58,6 +59,24 @@ fn copy() -> Listed<ReadDraft> {
     listed
 }
 
+/// Write what is only authenticated: what reading the section tolerantly
+/// refuses, then the required table, then the output.
+fn only_authenticated() -> Listed<ReadDraft> {
+    let mut list = vec![too_large()];
+    list.extend(sections::context(Mode::Tolerant));
+    list.extend([
+        read("31 required in twos", |d| d.required.push(0)),
+        read("31 required place", |d| d.required_outside()),
+        read("28 output", |d| d.room -= 1),
+    ]);
+    Listed {
+        operation: "write only authenticated",
+        version: None,
+        sound: ReadDraft::only_authenticated(),
+        list,
+    }
+}
+
 /// Read an authentication record of a suite of a version.
 fn auth(version: u32) -> Listed<RecordDraft> {
     let mut list = vec![
@@ -85,6 +104,7 @@ pub fn lists() -> Vec<Names> {
         keys(),
         find(),
         copy(),
+        only_authenticated(),
     ]
     .map(|listed| listed.names())
     .into();
@@ -126,6 +146,18 @@ fn values() {
         answered(&reads::copy_value(&d.message(), d.start, &d.asked, &out).0)
     });
     answers.assert_answered(["find", "copy"]);
+}
+
+#[test]
+fn only_authenticated_pairs() {
+    let mut answers = Coverage::default();
+    only_authenticated().every_pair(&mut answers, |d| {
+        let (message, out) = (d.message(), vec![0xEE; d.room]);
+        let (start, required) = (d.start, &d.required);
+        let text = REQUIRED_TEXT;
+        answered(&writes::write_only_authenticated(&message, start, text, required, &out).0)
+    });
+    answers.assert_complete(["write only authenticated"]);
 }
 
 #[test]

@@ -10,7 +10,7 @@ mod reading;
 mod record;
 mod writing;
 
-pub use reading::{Area, ReadDraft};
+pub use reading::{Area, ReadDraft, REQUIRED_TEXT};
 pub use record::RecordDraft;
 pub use writing::WriteDraft;
 

@@ -38,8 +38,13 @@ pub struct ReadDraft {
     pub pair_numbers: usize,
     pub key_numbers: usize,
     pub asked: Vec<u8>,
+    pub required: Vec<u32>,
     pub room: usize,
 }
+
+/// Where required keys have their places: those of both pairs, and one that
+/// no pair has.
+pub const REQUIRED_TEXT: &[u8] = b"linelangnone";
 
 fn sound_pairs() -> Vec<Pair> {
     vec![
@@ -75,6 +80,7 @@ impl ReadDraft {
             pair_numbers: 4 * fields.pairs.len(),
             key_numbers: 6 * fields.keys.len(),
             asked: fields.pairs[1].0.clone(),
+            required: vec![0, 4, 4, 4, 8, 4],
             room: fields.pairs[1].1.len(),
             fields,
         }
@@ -82,6 +88,14 @@ impl ReadDraft {
 
     pub fn context() -> ReadDraft {
         ReadDraft::new(&[Area::Context], 1)
+    }
+
+    /// A context whose pairs are both required, and an output that just holds
+    /// them and their count.
+    pub fn only_authenticated() -> ReadDraft {
+        let context = ReadDraft::context();
+        let room = 2 + pairs_length(&context.fields.pairs);
+        ReadDraft { room, ..context }
     }
 
     pub fn keys() -> ReadDraft {
@@ -216,6 +230,11 @@ impl ReadDraft {
         let before = pairs_length(&sound_pairs()[..pair]);
         let (key, value) = &mut self.fields.pairs[pair];
         value.resize(65_534 - before - 2 - key.len() - 2, b'a');
+    }
+
+    /// The last required place ends a byte behind the text.
+    pub fn required_outside(&mut self) {
+        self.required[5] += 1;
     }
 
     /// The content type and the frame length.

@@ -9,6 +9,7 @@ pub mod header_writes;
 pub mod headers;
 pub mod leaves;
 pub mod listings;
+pub mod only_authenticated;
 pub mod records;
 pub mod section_writes;
 pub mod sections;
@@ -94,4 +95,12 @@ pub trait Codec {
     fn write_keys(&self, text: &[u8], table: &[u32], out: &mut [u8]) -> Written;
     fn write_body(&self, lent: Lent, out: &mut [u8]) -> Written;
     fn write_record(&self, suite: u32, iv: &[u8], tag: &[u8], out: &mut [u8]) -> Written;
+    fn write_only_authenticated(
+        &self,
+        message: &[u8],
+        start: u64,
+        text: &[u8],
+        required: &[u32],
+        out: &mut [u8],
+    ) -> Written;
 }

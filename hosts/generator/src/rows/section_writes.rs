@@ -71,7 +71,9 @@ pub fn section_writers(codec: &impl Codec) -> u64 {
     (PAIRS.len() + KEYS.len()) as u64
 }
 
-fn writes(row: usize, answer: Written, out: &[u8], wanted: Result<&str, u32>) {
+/// The answer is the image's length and the output begins with it, or the
+/// refusal; bytes beyond keep.
+pub(super) fn writes(row: usize, answer: Written, out: &[u8], wanted: Result<&str, u32>) {
     let image = wanted.map(hex);
     let length: Result<u64, Refused> = image
         .as_ref()

@@ -28,6 +28,9 @@ fn too_long(codec: &impl Codec, long: &[u8]) -> u64 {
             codec.read_body(long, asked, &mut pairs, &mut keys).err(),
             codec.read_record(long, start, 0).err(),
             codec.find(long, start, b"").err(),
+            codec
+                .write_only_authenticated(long, start, b"", &[0], &mut [])
+                .err(),
             Some(codec.host_answer(long, start)),
         ];
         for refusal in refusals {
@@ -68,5 +71,11 @@ fn greatest(codec: &impl Codec, message: &[u8]) -> u64 {
         assert_eq!(refusal, Some((2, position)));
         compared += 1;
     }
-    compared
+    // The message is the text as well, and the key's place in it is required.
+    let (section, required) = (AT + 20, [moved(26), 4]);
+    let mut out = [7; 12];
+    let written = codec.write_only_authenticated(whole, section, whole, &required, &mut out);
+    assert_eq!(written, Ok(12));
+    assert_eq!(out, *b"\0\x01\0\x04lang\0\x02cy");
+    compared + 1
 }

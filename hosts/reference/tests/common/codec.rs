@@ -107,4 +107,15 @@ impl Codec for Reference {
     fn write_record(&self, suite: u32, iv: &[u8], tag: &[u8], out: &mut [u8]) -> Written {
         write_header_auth_tag(suite, iv, tag, out).map_err(refusal)
     }
+
+    fn write_only_authenticated(
+        &self,
+        message: &[u8],
+        start: u64,
+        text: &[u8],
+        required: &[u32],
+        out: &mut [u8],
+    ) -> Written {
+        write_only_authenticated(message, start, text, required, out).map_err(refusal)
+    }
 }

@@ -3,6 +3,7 @@
 
 pub mod codec;
 pub mod plain;
+pub mod plain_writes;
 
 use reference::{Mode, Refusal};
 

@@ -1,5 +1,5 @@
-//! A slow second opinion: the source's functions line by line, on owned
-//! bytes, with std's UTF-8 and a search of a list for earlier keys.
+//! A slow second opinion: the source's readers line by line, on owned bytes,
+//! with std's UTF-8 and a search of a list for earlier keys.
 
 use std::str::from_utf8;
 
@@ -50,7 +50,7 @@ impl<'a> Buffer<'a> {
     }
 }
 
-fn need(holds: bool, number: u32) -> Result<(), No> {
+pub fn need(holds: bool, number: u32) -> Result<(), No> {
     if holds {
         Ok(())
     } else {
@@ -119,7 +119,7 @@ pub struct Body {
     pub tail: u64,
 }
 
-fn suite_version(suite: u128) -> Option<u128> {
+pub fn suite_version(suite: u128) -> Option<u128> {
     match suite {
         0x0014 | 0x0046 | 0x0078 | 0x0114 | 0x0146 | 0x0178 | 0x0214 | 0x0346 | 0x0378 => Some(1),
         0x0478 | 0x0578 => Some(2),
@@ -174,95 +174,4 @@ pub fn body(buffer: &mut Buffer, only: u128, strict: bool, max: Option<u64>) -> 
         suite_data,
         tail: buffer.start as u64,
     })
-}
-
-/// The bytes of a table's places, with 26 and 27.
-fn lent(text: &[u8], table: &[u32], numbers: usize) -> Result<Vec<Vec<u8>>, No> {
-    need(table.len().is_multiple_of(numbers), 26)?;
-    let mut parts = Vec::new();
-    for place in table.chunks(2) {
-        let (start, end) = (place[0] as u128, place[0] as u128 + place[1] as u128);
-        need(end <= text.len() as u128, 26)?;
-        parts.push(start as usize..end as usize);
-    }
-    need(table.len() / numbers <= 65_535, 27)?;
-    need(parts.iter().all(|part| part.len() <= 65_535), 27)?;
-    Ok(parts.into_iter().map(|part| text[part].to_vec()).collect())
-}
-
-fn put_entry(out: &mut Vec<u8>, part: &[u8]) {
-    out.extend_from_slice(&(part.len() as u16).to_be_bytes());
-    out.extend_from_slice(part);
-}
-
-pub fn write_section(text: &[u8], table: &[u32]) -> Result<Vec<u8>, No> {
-    let parts = lent(text, table, 4)?;
-    let mut earlier: Vec<&Vec<u8>> = Vec::new();
-    let mut pairs = Vec::new();
-    for pair in parts.chunks(2) {
-        need(from_utf8(&pair[0]).is_ok(), 10)?;
-        need(from_utf8(&pair[1]).is_ok(), 11)?;
-        need(!earlier.contains(&&pair[0]), 12)?;
-        earlier.push(&pair[0]);
-        put_entry(&mut pairs, &pair[0]);
-        put_entry(&mut pairs, &pair[1]);
-    }
-    need(pairs.len() < 65_534, 13)?;
-    if parts.is_empty() {
-        return Ok(vec![0, 0]);
-    }
-    let mut out = ((pairs.len() + 2) as u16).to_be_bytes().to_vec();
-    out.extend_from_slice(&((parts.len() / 2) as u16).to_be_bytes());
-    out.extend(pairs);
-    Ok(out)
-}
-
-pub fn write_keys(text: &[u8], table: &[u32]) -> Result<Vec<u8>, No> {
-    let parts = lent(text, table, 6)?;
-    let mut out = ((parts.len() / 3) as u16).to_be_bytes().to_vec();
-    for key in parts.chunks(3) {
-        need(from_utf8(&key[0]).is_ok(), 16)?;
-        key.iter().for_each(|part| put_entry(&mut out, part));
-    }
-    Ok(out)
-}
-
-/// `numbers` as in [`Body`].
-pub fn write_body(
-    numbers: [u32; 6],
-    id: &[u8],
-    suite_data: &[u8],
-    text: &[u8],
-    pairs: &[u32],
-    keys: &[u32],
-) -> Result<Vec<u8>, No> {
-    let [version, message_type, suite, content_type, iv_length, frame_length] = numbers;
-    need(version == 1 || version == 2, 3)?;
-    let first = version == 1;
-    need(message_type == if first { 0x80 } else { 0 }, 5)?;
-    let suites_version = suite_version(u128::from(suite));
-    need(suites_version.is_some(), 6)?;
-    need(suites_version == Some(u128::from(version)), 7)?;
-    need(id.len() == if first { 16 } else { 32 }, 24)?;
-    let section = write_section(text, pairs)?;
-    let keys = write_keys(text, keys)?;
-    need(content_type == 1 || content_type == 2, 17)?;
-    need(iv_length == if first { 12 } else { 0 }, 19)?;
-    need(suite_data.len() == if first { 0 } else { 32 }, 25)?;
-    need((content_type == 1) == (frame_length == 0), 20)?;
-    let mut out = vec![version as u8];
-    if first {
-        out.push(0x80);
-    }
-    out.extend_from_slice(&[(suite >> 8) as u8, suite as u8]);
-    out.extend_from_slice(id);
-    out.extend(section);
-    out.extend(keys);
-    out.push(content_type as u8);
-    if first {
-        out.extend_from_slice(&[0, 0, 0, 0, 12]);
-    }
-    out.extend_from_slice(&frame_length.to_be_bytes());
-    out.extend_from_slice(suite_data);
-    Ok(out)
 }

@@ -20,6 +20,7 @@ fn every_operation_on_generated_requests() {
         + writes::keys(&mut coverage)
         + writes::bodies(&mut coverage)
         + writes::auth(&mut coverage)
+        + writes::only_authenticated(&mut coverage)
         + writes::listings(&mut coverage);
     coverage.print();
     coverage.assert_complete(LISTED.map(|(operation, _)| operation));

@@ -1,10 +1,12 @@
 //! The writers on generated requests.
 
-use crate::common::plain::{self, No};
+use crate::common::plain::No;
+use crate::common::plain_writes as plain;
 use crate::reads::{as_expected, number};
 use generator::auth_cases::auth_write_case;
 use generator::body_cases::body_case;
 use generator::body_write_cases::body_write_case;
+use generator::only_cases::only_case;
 use generator::write_cases::{write_keys_case, write_section_case, WriteCase};
 use generator::Expected;
 use reference::*;
@@ -133,6 +135,25 @@ pub fn auth(coverage: &mut Coverage) -> u64 {
             }
             Err(_) => assert_eq!(out, case.out, "seed {seed}"),
         }
+    }
+    SEEDS
+}
+
+pub fn only_authenticated(coverage: &mut Coverage) -> u64 {
+    const SEEDS: u64 = 200_000;
+    for seed in 0..SEEDS {
+        let case = only_case(seed);
+        let (message, start) = (&case.message, case.start);
+        let (text, required) = (case.text(), &case.required);
+        let mut out = case.out.clone();
+        let answer = write_only_authenticated(message, start, text, required, &mut out);
+        coverage.count("write only authenticated", number(&answer));
+        as_expected(seed, &answer, case.expected);
+        if case.expected == Expected::Accepted {
+            assert_eq!(out[..case.image.len()], case.image, "seed {seed}");
+        }
+        let plain = plain::only_authenticated(message, start, text, required);
+        output_is(seed, answer, (&case.out, &out), plain);
     }
     SEEDS
 }

@@ -1,0 +1,4 @@
+pub mod MarkLaws
+pub mod TotalLaws
+pub mod PutLaws
+pub mod Whole
