@@ -78,7 +78,7 @@ uint32_t bafirolen_version(void);
  */
 #define BAFIROLEN_STACK_READ 40960               /* read a context section or a body; find and copy a value */
 #define BAFIROLEN_STACK_KEYS 1024                /* read and write a key section or an authentication record */
-#define BAFIROLEN_STACK_ONLY_AUTHENTICATED 65536 /* write the pairs of required keys, whose order lies on the stack */
+#define BAFIROLEN_STACK_ONLY_AUTHENTICATED 57344 /* write the pairs of required keys, whose order lies on the stack */
 #define BAFIROLEN_STACK_LISTED 73728             /* the number, the position, the listing: their tables lie on the stack */
 #define BAFIROLEN_STACK_WRITE 143360             /* write a context section or a body */
 

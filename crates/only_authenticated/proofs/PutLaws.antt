@@ -27,16 +27,12 @@ use Rattle.pair_index.specs.Index.{pair-from}
 use Rattle.only_authenticated.specs.Codes.{Puts}
 use Rattle.only_authenticated.specs.Marks.{marked-at, marked, Adds}
 use Rattle.only_authenticated.specs.declared.Total.{Total}
-use Rattle.only_authenticated.proofs.TotalLaws.{at-none, at-some, marked-step, marked-none}
+use Rattle.only_authenticated.proofs.TotalLaws.{pair-size, at-none, at-some, marked-step, marked-none}
 
 -- a pair: two entries, one behind the other
 module _ (m : List ℕ) (s : ℕ) (inside : pair-end m s ≤ length m) (k v : Entry) (kIs : EntryIs m s k) (vIs : EntryIs m (k .tail) v) where
-  size : (2 + k .len) + (2 + v .len) ≡ pair-length (pair-of (pair-here m s))
-  size =
-      let a = length-part m (s + 2) (number16 m s) (omega arith) in
-      let b = length-part m (entry-end m s + 2) (number16 m (entry-end m s)) inside in
-      let c : v .len ≡ number16 m (entry-end m s) = vIs .size ∙ ap (number16 m) (kIs .ends) in
-      omega (arith, kIs .size)
+  size : 4 + k .len + v .len ≡ pair-length (pair-of (pair-here m s))
+  size = pair-size m s inside k kIs v vIs
 
   module _ (out : List ℕ) (at : ℕ) (room : at + pair-length (pair-of (pair-here m s)) ≤ length out) where
     pub key-room : at + 2 + k .len ≤ length out

@@ -27,7 +27,7 @@ pub const STACK_KEYS: usize = 1_024;
 /// Bytes of stack for
 /// [`write_only_authenticated`](crate::write_only_authenticated), which keeps
 /// the order of the pairs there.
-pub const STACK_ONLY_AUTHENTICATED: usize = 65_536;
+pub const STACK_ONLY_AUTHENTICATED: usize = 57_344;
 
 /// Bytes of stack for [`header_number`](crate::header_number),
 /// [`header_position`](crate::header_position) and
