@@ -5,7 +5,6 @@ use native.Mathlib.Omega.{arith}
 use mathlib.Core.Path.{_≡_, refl, sym, ap, ap₂, _∙_}
 use mathlib.Core.Bool.{Bool, true}
 use mathlib.Core.List.{List, [], _∷_, _++_, append-assoc}
-use lib.ListN.{length}
 use Rattle.format.specs.Serialize.{images, sum, every}
 use Rattle.format.specs.Lent.{items, here}
 use Rattle.format.proofs.Firsts.{both}
@@ -25,11 +24,6 @@ items-snoc f k zero at = rw (mul-zero, add-zero)
 items-snoc f k (suc i) at =
     let e : at + k + k * i ≡ at + k * suc i = rw (mul-suc, add-assoc at k, add-comm k) in
     ap (λ l. f at ∷ l) (items-snoc f k i (at + k) ∙ ap (λ (x : ℕ). items f k i (at + k) ++ (f x ∷ [])) e)
-
-pub items-length : {A : Type 0} (f : ℕ → A) (k n at : ℕ) → length (items f k n at) ≡ n
-unfolding items
-items-length f k zero at = refl
-items-length f k (suc n) at = ap suc (items-length f k n (at + k))
 
 -- what holds of every place holds of each
 pub every-at : (f : ℕ → Bool) (n at : ℕ) → every f (items here 2 n at) ≡ true → (j : ℕ) → j < n → f (at + 2 * j) ≡ true

@@ -5,8 +5,8 @@ use mathlib.Core.List.{List, [], map}
 use Prim.Native.Nat.{ℕ, zero, suc, _+_, _-_, _*_, _≤_, _<_}
 use native.Mathlib.Numerals.{add-one}
 use native.Mathlib.Omega.{arith}
-use borrow.Author.Tests.{lt-ltb, le-ltb, ltb-true, ltb-false}
-use lib.Dec.{ltb}
+use borrow.Author.Tests.{lt-ltb, le-ltb, ltb-true, ltb-false, leb-true, leb-false}
+use lib.Dec.{leb, ltb}
 use lib.ListN.{length}
 use Rattle.format.specs.Read.{accepted, repeat, at}
 use Rattle.format.specs.Fields.{PairAt, pair-of}
@@ -30,7 +30,7 @@ use Rattle.entries.proofs.Walk.{walk-start, walk-end, walk-stop, walk-more}
 use Rattle.index.specs.Index.{Copied}
 use Rattle.pair_index.specs.Index.{Indexed, Ready, Added}
 use Rattle.pair_index.proofs.SeenLaws.{indexed-start, indexed-copied}
-use Rattle.context.specs.Stepping.{Onward, Grown, After, Stepped, Reached, UpTo, ReadUpTo, Lendable, AfterAll, ReadAll}
+use Rattle.context.specs.Stepping.{Onward, Grown, After, Stepped, Reached, UpTo, ReadUpTo, Lendable, HasRoom, AfterAll, ReadAll}
 use Rattle.context.proofs.Known.{pair-tidy, pair-known, pair-kind, forward, here-size}
 
 -- a key and a value
@@ -262,6 +262,23 @@ all-grown m first n room keys r few less e = record { answer = e; after = go r }
     go : (x : Next) → AfterAll m first n room keys x
     go (next.At s) = λ h. absurd (omega (arith, h few))
     go (next.Not q) = tt
+
+-- whether there is room
+pub room-largest : (room n : ℕ) → 16384 ≤ room → HasRoom room n true
+room-largest room n h = record { enough = λ e k. absurd (omega arith); small = λ e. let z : _≡_ {A = ℕ} 0 1 = cc in absurd (omega arith); less = λ e. let z : _≡_ {A = ℕ} 0 1 = cc in absurd (omega arith) }
+
+pub room-test : (room n : ℕ) → room < 16384 → HasRoom room n (leb n room)
+room-test room n h = record { enough = λ e k. leb-true n room e; small = λ e. h; less = λ e. leb-false n room e }
+
+module _ (room n : ℕ) (r : Bool) (h : HasRoom room n r) where
+  pub room-enough : r ≡ true → room < 16384 → n ≤ room
+  room-enough = h .enough
+
+  pub room-small : r ≡ false → room < 16384
+  room-small = h .small
+
+  pub room-less : r ≡ false → room < n
+  room-less = h .less
 
 -- indexes that are lent
 pub lent-small : (room : ℕ) → room ≤ 512 → Lendable room

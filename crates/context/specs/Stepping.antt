@@ -1,5 +1,6 @@
 -- What the steps of reading pairs with the index of their keys say to each other. Assumes nothing.
 use mathlib.Core.Path.{_≡_}
+use mathlib.Core.Bool.{Bool, true, false}
 use mathlib.Core.List.{List, []}
 use Prim.Native.Nat.{ℕ, suc, _+_, _≤_, _<_}
 use lib.ListN.{length}
@@ -58,6 +59,12 @@ pub record Lendable (room : ℕ) : Type 0 where
 -- an index of that many places has room for n pairs: they are not more, or it has as many as any section needs
 abbrev pub Roomy : ℕ → ℕ → Type 0
 Roomy room n = room < 16384 → n ≤ room
+
+-- r: whether it has room for n pairs, or would have to grow
+pub record HasRoom (room n : ℕ) (r : Bool) : Type 0 where
+  pub enough : r ≡ true → Roomy room n
+  pub small : r ≡ false → room < 16384
+  pub less : r ≡ false → room < n
 
 -- the index has room for the n pairs, and has them
 pub record HasPairs (m : List ℕ) (first n : ℕ) (keys : List ℕ) : Type 0 where

@@ -12,7 +12,7 @@ ghost use lib.ListN.{length};
 ghost use Rattle.format.specs.Read.{at, repeat};
 ghost use Rattle.format.specs.Context.{read-aad-pair, read-next-aad-pair};
 ghost use Rattle.entries.specs.Codes.{next-of};
-ghost use Rattle.context.specs.Stepping.{Onward, Stepped, Reached, ReadUpTo, ReadAll, Lendable};
+ghost use Rattle.context.specs.Stepping.{Onward, Stepped, Reached, ReadUpTo, ReadAll, Lendable, HasRoom};
 
 // ReadAADPair: a key and a value, both UTF-8.
 fn read_pair(m: &[u8], s: u64) -> Next
@@ -124,16 +124,23 @@ fn pairs_from(m: &[u8], first: u64, count: usize, from: usize, start: u64, keys:
     pairs_with_largest(m, first, count, to, s, keys)
 }
 
+// Whether an index of so many places has room for n pairs: one of 16,384 has it for as many as any section holds.
+fn has_room(room: usize, n: usize) -> bool
+    ensures { λ r. ⌜ HasRoom room n r ⌝ }
+{
+    if 16384 <= room {
+        return true;
+    }
+    n <= room
+}
+
 // ReadAADPairs: where the `count` pairs from `first` on end. An index with room for them has them afterwards.
 pub(crate) fn read_pairs(m: &[u8], first: u64, count: u64, keys: &mut [u16]) -> Next
     requires { ⌜ (first ≤ length (now m)) × (length (now m) < 4294967296) × Lendable (length (now keys)) ⌝ }
     ensures { λ r. ⌜ ReadAll (now (m .entry)) first count (length (now (keys .entry))) (now (keys .exit)) r ⌝ }
 {
     let n = count as usize;
-    if 16384 <= keys.len() {
-        return pairs_up_to(m, first, n, 0, n, first, keys);
-    }
-    if n <= keys.len() {
+    if has_room(keys.len(), n) {
         return pairs_up_to(m, first, n, 0, n, first, keys);
     }
     pairs_from(m, first, n, 0, first, keys)

@@ -2,7 +2,7 @@
 use mathlib.Core.Path.{_≡_, refl, sym, ap, _∙_}
 use mathlib.Core.Bool.{Bool, true, false}
 use mathlib.Core.List.{List, [], _∷_, map}
-use Prim.Native.Nat.{ℕ, _+_, _%_, _≤_, _<_}
+use Prim.Native.Nat.{ℕ, _+_, _/_, _%_, _≤_, _<_}
 use native.Mathlib.Omega.{arith}
 use lib.Dec.{leb, eqb}
 use lib.ListN.{length, length-append}
@@ -10,7 +10,7 @@ use Rattle.format.specs.Read.{Reader, _>>_, return, test, Answer, accept
 use Rattle.format.specs.Serialize.{Bytes, every, sum}
 use Rattle.format.specs.Fields.{Pair, PairAt, pair-of}
 use Rattle.format.specs.Context.{seen, linear-length, pairs-limit, Form, today, old, write-aad-pair, write-empty-ec-or-write-aad, write-expanded-aad-section, write-aad-section, section-in, tolerant, read-aad-section}
-use Rattle.format.specs.Lent.{parts-in, places, in-text, table-checks}
+use Rattle.format.specs.Lent.{part-in, parts-in, places, in-text, table-checks}
 use Rattle.format.specs.OnlyAuthenticated.{context-to-only-authenticate, only-authenticated, in-twos, fitting, write-only-authenticated}
 use Rattle.format.specs.Demand3.{Differ}
 use Rattle.format.specs.Pinned.{InText}
@@ -21,7 +21,7 @@ use Rattle.format.proofs.Serialize.{length-uint16}
 use Rattle.format.proofs.Context.{pair-at, length-aad, room-all, Context, context-bytes, section-exact}
 use Rattle.format.proofs.Firsts.{holds, unheld, both, and}
 use Rattle.format.proofs.Messages.{refused-is-no-accepted, accepted-took, refused-stays, accepted-goes-on}
-use Rattle.format.proofs.Tables.{tables}
+use Rattle.format.proofs.Tables.{items-length, which-keys, tables}
 use Rattle.format.proofs.Find.{seen-has, one}
 use Rattle.format.proofs.KeyOrder.{key-order}
 use Rattle.format.proofs.SelectionLaws.{each-once, selects, fixed, named, absent, bytes, no-bytes, written-length}
@@ -120,6 +120,8 @@ selection =
       selects = selects;
       named = named;
       absent = absent;
+      how-many-keys = λ text table. items-length (part-in text table) 2 (length table / 2) 0;
+      which-keys = which-keys;
       in-twos-is = λ text required. record { then-holds = then-in-text text required; holds-then = in-text-then text required };
       bytes = bytes;
       no-bytes = no-bytes;

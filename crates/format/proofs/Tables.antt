@@ -1,19 +1,35 @@
--- Refusal 26 speaks of each place of a table. Assumes nothing.
+-- Refusal 26 speaks of each place of a table, and a table has its parts by their places. Assumes nothing.
 use mathlib.Core.Path.{_≡_, refl, sym, ap, _∙_}
 use mathlib.Core.Bool.{Bool, true}
 use mathlib.Core.Option.{none}
-use mathlib.Core.List.{List}
+use mathlib.Core.List.{List, []}
 use Prim.Native.Nat.{ℕ, zero, suc, _+_, _*_, _/_, _%_, _≤_, _<_}
 use native.Mathlib.Omega.{arith}
 use lib.Dec.{eqb}
 use lib.ListN.{length, getD}
 use Rattle.format.specs.Serialize.{every}
 use Rattle.format.specs.Checks.{first}
-use Rattle.format.specs.Lent.{items, here, places, in-text, table-checks}
+use Rattle.format.specs.Lent.{bytes-at, items, here, part-in, parts-in, places, in-text, table-checks}
 use Rattle.format.specs.Lengths.{JustWhere}
 use Rattle.format.specs.Pinned.{InText}
 use Rattle.format.proofs.Tests.{leb-is, is-leb, eqb-is, is-eqb}
 use Rattle.format.proofs.Firsts.{holds, unheld, both, and}
+
+-- items in a table: how many there are, and each by its place
+pub items-length : {A : Type 0} (f : ℕ → A) (k n at : ℕ) → length (items f k n at) ≡ n
+unfolding items
+items-length f k zero at = refl
+items-length f k (suc n) at = ap suc (items-length f k n (at + k))
+
+items-at : {A : Type 0} (f : ℕ → A) (d : A) (n at i j : ℕ) → i < n → j ≡ at + 2 * i → getD (items f 2 n at) i d ≡ f j
+unfolding items
+items-at f d zero at i j h e = absurd (omega arith)
+items-at f d (suc n) at zero j h e = let z : at ≡ j = omega arith in ap f z
+items-at f d (suc n) at (suc i) j h e = items-at f d n (at + 2) i j (omega arith) (omega arith)
+
+pub which-keys : (text table : List ℕ) (i : ℕ) → i < length table / 2 → getD (parts-in text table) i [] ≡ bytes-at text (getD table (2 * i) 0) (getD table (2 * i + 1) 0)
+unfolding part-in
+which-keys text table i h = items-at (part-in text table) [] (length table / 2) 0 i (2 * i) h (omega arith)
 
 -- a test of the places from one on, each two numbers behind the one before it
 at-each : (f : ℕ → Bool) (n at : ℕ) → every f (items here 2 n at) ≡ true → (i j : ℕ) → i < n → j ≡ at + 2 * i → f j ≡ true

@@ -5,13 +5,13 @@ use mathlib.Core.Path.{_≡_}
 use mathlib.Core.Bool.{true, false}
 use mathlib.Core.Logic.{_⊎_}
 use mathlib.Core.List.{List, [], _∷_, _++_, map, List·Memᴰ}
-use Prim.Native.Nat.{ℕ, _+_, _≤_, _<_}
-use lib.ListN.{length}
+use Prim.Native.Nat.{ℕ, _+_, _*_, _/_, _≤_, _<_}
+use lib.ListN.{length, getD}
 use Rattle.format.specs.Read.{accepted, refused, operation}
 use Rattle.format.specs.Serialize.{Bytes, write-uint16}
 use Rattle.format.specs.Fields.{Pair, PairAt, pair-of}
 use Rattle.format.specs.Context.{seen, write-aad-pairs, write-empty-ec-or-write-aad, tolerant, read-aad-section}
-use Rattle.format.specs.Lent.{parts-in}
+use Rattle.format.specs.Lent.{bytes-at, parts-in}
 use Rattle.format.specs.Sorted.{before}
 use Rattle.format.specs.OnlyAuthenticated.{context-to-only-authenticate, in-twos, write-only-authenticated}
 use Rattle.format.specs.Pinned.{Decides, InText}
@@ -72,6 +72,9 @@ pub record Selection : Type 0 where
       → context-to-only-authenticate keys ps ≡ context-to-only-authenticate others ps
   -- a required key that no pair has changes nothing
   pub absent : (k : List ℕ) (keys : List (List ℕ)) (ps : List Pair) → seen k ps ≡ false → context-to-only-authenticate (k ∷ keys) ps ≡ context-to-only-authenticate keys ps
+  -- the required keys are the parts of the text whose starts and lengths the table has, two numbers each
+  pub how-many-keys : (text table : List ℕ) → length (parts-in text table) ≡ length table / 2
+  pub which-keys : (text table : List ℕ) (i : ℕ) → i < length table / 2 → getD (parts-in text table) i [] ≡ bytes-at text (getD table (2 * i) 0) (getD table (2 * i + 1) 0)
   -- 31
   pub in-twos-is : (text required : List ℕ) → Decides (in-twos text required) (InText 2 text required)
   -- the count and the pairs, with no section length in front

@@ -14,8 +14,9 @@ use Rattle.format.specs.Keys.{write-encrypted-data-key, write-encrypted-data-ke
 use Rattle.format.specs.Lent.{parts-in, pair-in, key-in, pairs-in, keys-in, writing-aad-section, writing-encrypted-data-keys-section, items}
 use Rattle.format.proofs.Context.{length-images}
 use Rattle.format.proofs.Serialize.{length-uint16, length-entry}
+use Rattle.format.proofs.Tables.{items-length}
 use Rattle.checks.specs.Table.{Passed, entries-size}
-use Rattle.checks.proofs.Items.{items-length, images-of-images}
+use Rattle.checks.proofs.Items.{images-of-images}
 use Rattle.checks.proofs.Parts.{in-fours, in-sixes, parts-size}
 use Rattle.checks.proofs.SectionChecks.{pairs-size}
 use Rattle.section_write.specs.Sizes.{aad-section-size, keys-section-size}
