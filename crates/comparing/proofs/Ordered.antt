@@ -11,6 +11,7 @@ use borrow.Author.Tests.{ltb-true, ltb-false, lt-ltb, le-ltb, eq-eqb, ne-eqb}
 use Rattle.format.specs.Serialize.{same-bytes}
 use Rattle.format.specs.Sorted.{before}
 use Rattle.comparing.specs.Order.{compare-bytes, flip}
+use Rattle.comparing.specs.declared.Order.{Order}
 use Rattle.comparing.specs.declared.Order.the-variants.{Less, Equal, Greater}
 
 -- the ways two numbers stand
@@ -92,29 +93,31 @@ compare-trans (x ∷ s) (y ∷ t) (z ∷ u) p q = go (way x y) (way y z) (compar
     go (same h) (over k) ih = cc (first-over y z t u k)
 
 -- it is the order that pairs are sorted by
-pub less-before : (a b : List ℕ) → compare-bytes a b ≡ Less → before a b ≡ true
+abbrev is-less : Order → Bool
+is-less Less = true
+is-less Equal = false
+is-less Greater = false
+
+compare-before : (a b : List ℕ) → before a b ≡ is-less (compare-bytes a b)
 unfolding compare-bytes before
-less-before [] [] e = cc
-less-before [] (y ∷ t) e = refl
-less-before (x ∷ s) [] e = cc
-less-before (x ∷ s) (y ∷ t) e = go (way x y) (less-before s t)
+compare-before [] [] = refl
+compare-before [] (y ∷ t) = refl
+compare-before (x ∷ s) [] = refl
+compare-before (x ∷ s) (y ∷ t) = go (way x y) (compare-before s t)
   where
-    go : Way x y → (compare-bytes s t ≡ Less → before s t ≡ true) → before (x ∷ s) (y ∷ t) ≡ true
+    go : Way x y → before s t ≡ is-less (compare-bytes s t) → before (x ∷ s) (y ∷ t) ≡ is-less (compare-bytes (x ∷ s) (y ∷ t))
     go (under h) ih = rw (lt-ltb x y h) refl
-    go (same h) ih = let k : y ≤ x = omega arith in rw (le-ltb x y k, eq-eqb x y h) (ih (sym (first-same x y s t h) ∙ e))
-    go (over h) ih = cc (first-over x y s t h)
+    go (same h) ih =
+        let a : y ≤ x = omega arith in
+        let b : x ≤ y = omega arith in
+        rw (le-ltb x y a, le-ltb y x b, eq-eqb x y h) ih
+    go (over h) ih = let a : y ≤ x = omega arith in rw (le-ltb x y a, lt-ltb y x h, ne-eqb x y (λ q. omega arith)) refl
+
+pub less-before : (a b : List ℕ) → compare-bytes a b ≡ Less → before a b ≡ true
+less-before a b e = compare-before a b ∙ ap is-less e
 
 pub greater-before : (a b : List ℕ) → compare-bytes a b ≡ Greater → before a b ≡ false
-unfolding compare-bytes before
-greater-before [] [] e = cc
-greater-before [] (y ∷ t) e = cc
-greater-before (x ∷ s) [] e = refl
-greater-before (x ∷ s) (y ∷ t) e = go (way x y) (greater-before s t)
-  where
-    go : Way x y → (compare-bytes s t ≡ Greater → before s t ≡ false) → before (x ∷ s) (y ∷ t) ≡ false
-    go (under h) ih = cc (first-under x y s t h)
-    go (same h) ih = let k : y ≤ x = omega arith in rw (le-ltb x y k, eq-eqb x y h) (ih (sym (first-same x y s t h) ∙ e))
-    go (over h) ih = let k : y ≤ x = omega arith in rw (le-ltb x y k, ne-eqb x y (λ q. omega arith)) refl
+greater-before a b e = compare-before a b ∙ ap is-less e
 
 -- the same bytes
 pub same-refl : (a : List ℕ) → same-bytes a a ≡ true

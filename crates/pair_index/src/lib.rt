@@ -23,7 +23,8 @@ fn probe(m: &[u8], first: u64, s: &[u16], r: usize, key: &[u8]) -> Order
     comparing::compare(&m[from..to], key)
 }
 
-// Looks a key up among the n keys of the index: the last one first, and then by halves.
+// Looks a key up among the n keys of the index: the last one first, and then by halves. The bound on `first` is that of a start and of
+// the four bytes in front of a section's pairs: where there is no pair it may lie behind the message's end.
 pub fn find(m: &[u8], first: u64, n: usize, s: &[u16], key: &[u8]) -> Spot
     requires { ⌜ Index (now m) first n (now s) × (n ≤ length (now s)) × (first < 4294967300) ⌝ }
     ensures { λ r. ⌜ Sought (key-of (now (m .entry)) first) n (now (s .entry)) (now (key .entry)) r ⌝ }
