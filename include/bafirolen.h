@@ -209,8 +209,8 @@ BafirolenWritten bafirolen_write_header_body(BafirolenNumbers numbers, const uin
  * section has it; no length stands in front. For a body that was accepted bafirolen_context_start gives the start.
  * required: start and length of each key, places of `text`. The keys may be any bytes and stand in any order; one that no pair
  * has, or that is named twice, changes nothing. All numbers are taken: zeros at the end of a longer table are the empty key.
- * out: what is written takes 2 bytes, 4 for each pair, and its parts. It is never longer than what the section's length says, nor
- * than 65,535 bytes: an output of either length, or as long as the whole section, is never too short.
+ * out: what is written takes 2 bytes, 4 for each pair, and its parts. It is never longer than the whole section, nor than 65,535
+ * bytes: an output of either length is never too short.
  * Refuses: 1 2 8 9 10 11 12 13 14 31 28.
  * Stack: BAFIROLEN_STACK_ONLY_AUTHENTICATED.
  */

@@ -11,9 +11,8 @@ use crate::Refusal;
 /// begins another comes first. Where no pair has such a key nothing is written,
 /// and the answer is 0. Otherwise the count of those pairs is written, in 2
 /// bytes, then each pair as its section has it: 4 bytes and its parts. No
-/// length stands in front. That is never longer than what the section's length
-/// says, nor than 65,535 bytes: an output of either length, or as long as the
-/// whole section, is never too short.
+/// length stands in front. That is never longer than the whole section, nor
+/// than 65,535 bytes: an output of either length is never too short.
 ///
 /// `required` has start and length of each key, places of `text`. The keys may
 /// be any bytes and stand in any order; one that no pair has, or that is named
