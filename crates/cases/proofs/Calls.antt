@@ -1,10 +1,9 @@
 -- For each list of refusals a table of calls whose answers, computed, are the numbers of the list in their order. Assumes nothing.
 use mathlib.Core.Path.{_≡_, refl}
-use mathlib.Core.Bool.{Bool, true, false, cond}
+use mathlib.Core.Bool.{Bool, true, false}
 use mathlib.Core.Option.{Option, none, some}
 use mathlib.Core.List.{List, [], _∷_, _++_, map}
 use Prim.Native.Nat.{ℕ}
-use lib.Dec.{eqb}
 use lib.ListN.{take}
 use Rattle.format.specs.Read.{Reader, Answer, accepted, refused, operation}
 use Rattle.format.specs.Context.{Mode, tolerant, strict, read-aad-section, read-aad-section-into, look-up, find-value}
@@ -33,10 +32,11 @@ calls ms = map (λ (m : List ℕ). (m, 0)) ms
 unfoldable pub said : {A : Type 0} → Reader A → Call → Option ℕ
 said r (m, s) = number-of (operation r m s)
 
--- context sections that refuse 8 to 12 and 14, in both modes
+-- context sections that refuse 32, 8 to 12 and 14, in both modes
 unfoldable pub sections : List (List ℕ)
 sections =
-    (0x00 ∷ 0x02 ∷ 0x00 ∷ 0x01 ∷ [])
+    (0x00 ∷ 0x01 ∷ 0x00 ∷ [])
+    ∷ (0x00 ∷ 0x02 ∷ 0x00 ∷ 0x01 ∷ [])
     ∷ (0x00 ∷ 0x03 ∷ 0x00 ∷ 0x00 ∷ 0x00 ∷ [])
     ∷ (0x00 ∷ 0x05 ∷ 0x00 ∷ 0x01 ∷ 0x00 ∷ 0x01 ∷ 0xFF ∷ [])
     ∷ (0x00 ∷ 0x07 ∷ 0x00 ∷ 0x01 ∷ 0x00 ∷ 0x00 ∷ 0x00 ∷ 0x01 ∷ 0xFF ∷ [])
@@ -44,16 +44,11 @@ sections =
     ∷ (0x00 ∷ 0x07 ∷ 0x00 ∷ 0x01 ∷ 0x00 ∷ 0x00 ∷ 0x00 ∷ 0x00 ∷ 0x00 ∷ [])
     ∷ []
 
--- all but 13, which takes a long section
-abbrev pub others : List ℕ → List ℕ
-others [] = []
-others (k ∷ ks) = cond (eqb k 13) (others ks) (k ∷ others ks)
-
 -- a start that refuses 1, and no message, which wants one
 abbrev pub far-and-short : List Call
 far-and-short = ([], 4294967296) ∷ ([], 0) ∷ []
 
-pub section-answers : (mode : Mode) → map (said (read-aad-section mode)) (far-and-short ++ calls sections) ≡ map some (others (1 ∷ 2 ∷ section-refusals tolerant))
+pub section-answers : (mode : Mode) → map (said (read-aad-section mode)) (far-and-short ++ calls sections) ≡ map some (1 ∷ 2 ∷ section-refusals tolerant)
 unfolding opened said sections section-refusals
 section-answers mode = refl
 
@@ -103,9 +98,9 @@ body-calls which = far-and-short ++ (calls (openings which) ++ calls (map (λ (b
 abbrev pub body-said : Which → Mode → Call → Option ℕ
 body-said which mode = said (read-header-body which mode (at-most 1) 4 0)
 
--- in both modes the numbers of the tolerant list but for 13
+-- in both modes the numbers of the tolerant list
 abbrev pub Answered : Which → Type 0
-Answered which = (mode : Mode) → map (body-said which mode) (body-calls which) ≡ map some (others (listed-for which tolerant))
+Answered which = (mode : Mode) → map (body-said which mode) (body-calls which) ≡ map some (listed-for which tolerant)
 
 either-answers : Answered either
 unfolding opened said sections H V2 bytes-from opening-refusals section-refusals reserved-refusals frame-refusals closing-refusals body-refusals

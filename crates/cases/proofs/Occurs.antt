@@ -1,27 +1,22 @@
 -- Each number of a list is answered, by a call of the tables in proofs/Calls. Assumes nothing.
 use mathlib.Core.Path.{_≡_, refl, sym, ap, _∙_}
-use mathlib.Core.Bool.{Bool, true, false, _||_}
-use mathlib.Core.Logic.{_⊎_, inl, inr, ⊎-elim}
+use mathlib.Core.Bool.{true}
+use mathlib.Core.Logic.{_⊎_, ⊎-elim}
 use mathlib.Core.Option.{Option, some}
-use mathlib.Core.List.{List, [], _∷_, _++_, map, List·Memᴰ, List·Memᴰ·head, List·Memᴰ·tail, List·Memᴰ·not-nil, List·Memᴰ·cases-cons}
+use mathlib.Core.List.{List, [], _∷_, _++_, map, List·Memᴰ, List·Memᴰ·not-nil, List·Memᴰ·cases-cons}
 use Prim.Native.Nat.{ℕ}
 use native.Mathlib.Omega.{arith}
-use lib.Dec.{eqb}
 use Rattle.format.specs.Read.{Reader, Answer, accepted, refused, operation}
-use Rattle.format.specs.Serialize.{every}
 use Rattle.format.specs.Context.{Mode, tolerant, strict, read-aad-section, read-aad-section-into, look-up, find-value}
 use Rattle.format.specs.Keys.{at-most}
 use Rattle.format.specs.Body.{Which, either, v1-only, v2-only, read-header-body}
 use Rattle.format.specs.Auth.{read-header-auth-tag}
 use Rattle.format.specs.OnlyAuthenticated.{write-only-authenticated}
 use Rattle.format.specs.Refusals.{section-refusals, context-refusals, find-refusals, only-authenticated-refusals, opening-refusals, reserved-refusals, frame-refusals, closing-refusals, keys-refusals, body-refusals, auth-refusals}
-use Rattle.format.proofs.Tests.{is-eqb}
-use Rattle.format.proofs.Suites.{every-member}
+use Rattle.format.proofs.Members.{has-all, members}
 use Rattle.format.proofs.Messages.{refused-stays}
-use Rattle.format.proofs.Firsts.{or-cases}
 use Rattle.cases.specs.Occurs.{Answers, listed-for, Occurs}
-use Rattle.cases.proofs.Long.{long, long-section, long-body, long-in-body}
-use Rattle.cases.proofs.Calls.{number-of, Call, calls, said, sections, others, far-and-short, section-answers, opening-bytes, is-v1, body-calls, body-answers, old-form, strict-section, strict-body, no-table, no-pair, odd-table, no-output, key-calls, key-answers, auth-said, auth-calls, auth-answers}
+use Rattle.cases.proofs.Calls.{number-of, Call, calls, said, sections, far-and-short, section-answers, opening-bytes, is-v1, body-calls, body-answers, old-form, strict-section, strict-body, no-table, no-pair, odd-table, no-output, key-calls, key-answers, auth-said, auth-calls, auth-answers}
 
 -- a number that is answered by a call
 answered : {A : Type 0} (r : Reader A) (c : Call) (k : ℕ) → said r c ≡ some k → Answers r k
@@ -45,31 +40,19 @@ among f (c ∷ cs) (j ∷ ks) e k h =
 each-answered : {A : Type 0} (r : Reader A) (cs : List Call) (ks : List ℕ) → map (said r) cs ≡ map some ks → (k : ℕ) → List·Memᴰ k ks → Answers r k
 each-answered r cs ks e k h = let (c, q) = among (said r) cs ks e k h in answered r c k q
 
--- a list is made of another and of a few numbers more
-abbrev elem : List ℕ → ℕ → Bool
-elem [] k = false
-elem (j ∷ ks) k = eqb k j || elem ks k
-
-elem-in : (ks : List ℕ) (k : ℕ) → elem ks k ≡ true → List·Memᴰ k ks
-elem-in [] k e = let z : _≡_ {A = ℕ} 0 1 = cc in absurd (omega arith)
-elem-in (j ∷ ks) k e = ⊎-elim (λ q. List·Memᴰ·head (is-eqb k j q)) (λ h. List·Memᴰ·tail (elem-in ks k h)) (or-cases (eqb k j) (elem ks k) e)
-
-one-apart : (x : ℕ) (js ks : List ℕ) → every (λ k. eqb k x || elem js k) ks ≡ true → (k : ℕ) → List·Memᴰ k ks → (k ≡ x) ⊎ List·Memᴰ k js
-one-apart x js ks e k h = ⊎-elim (λ q. inl (is-eqb k x q)) (λ q. inr (elem-in js k q)) (or-cases (eqb k x) (elem js k) (every-member (λ k. eqb k x || elem js k) ks e k h))
+-- a list is made of another and of one number more
+one-apart : (x : ℕ) (js ks : List ℕ) → has-all (x ∷ js) ks ≡ true → (k : ℕ) → List·Memᴰ k ks → (k ≡ x) ⊎ List·Memᴰ k js
+one-apart x js ks e k h = List·Memᴰ·cases-cons (members (x ∷ js) ks e k h)
 
 -- the context section, as an operation and in find
 abbrev common : List ℕ
 common = 1 ∷ 2 ∷ section-refusals tolerant
 
 section-answered : (mode : Mode) (k : ℕ) → List·Memᴰ k common → Answers (read-aad-section mode) k
-unfolding every section-refusals
-section-answered mode k h =
-    ⊎-elim (λ e. answered (read-aad-section mode) (long, 0) k (long-section mode ∙ ap some (sym e)))
-    (each-answered (read-aad-section mode) (far-and-short ++ calls sections) (others common) (section-answers mode) k)
-    (one-apart 13 (others common) common refl k h)
+section-answered mode k h = each-answered (read-aad-section mode) (far-and-short ++ calls sections) common (section-answers mode) k h
 
 strict-answered : (k : ℕ) → List·Memᴰ k (1 ∷ 2 ∷ section-refusals strict) → Answers (read-aad-section strict) k
-unfolding every section-refusals
+unfolding section-refusals
 strict-answered k h =
     ⊎-elim (λ e. answered (read-aad-section strict) (old-form, 0) k (strict-section ∙ ap some (sym e))) (section-answered strict k) (one-apart 21 common (1 ∷ 2 ∷ section-refusals strict) refl k h)
 
@@ -77,8 +60,8 @@ section-of : (mode : Mode) (k : ℕ) → List·Memᴰ k (1 ∷ 2 ∷ section-ref
 section-of tolerant k h = section-answered tolerant k h
 section-of strict k h = strict-answered k h
 
-without-22 : (mode : Mode) → every (λ k. eqb k 22 || elem (1 ∷ 2 ∷ section-refusals mode) k) (context-refusals mode) ≡ true
-unfolding every section-refusals context-refusals
+without-22 : (mode : Mode) → has-all (22 ∷ 1 ∷ 2 ∷ section-refusals mode) (context-refusals mode) ≡ true
+unfolding section-refusals context-refusals
 without-22 tolerant = refl
 without-22 strict = refl
 
@@ -90,7 +73,7 @@ of-context mode k h =
     (one-apart 22 (1 ∷ 2 ∷ section-refusals mode) (context-refusals mode) (without-22 mode) k h)
 
 of-find : (k : ℕ) → List·Memᴰ k find-refusals → (key : List ℕ) × Answers (find-value key) k
-unfolding every section-refusals find-refusals find-value
+unfolding section-refusals find-refusals find-value
 of-find k h =
     ⊎-elim (λ e. ([], answered (find-value []) _ k (no-pair ∙ ap some (sym e))))
     (λ i. let a = section-answered tolerant k i in ([], record { message = a .message; start = a .start; position = a .position; answers = refused-stays _ (look-up []) (a .message) (a .start) k (a .position) (a .answers) }))
@@ -98,7 +81,7 @@ of-find k h =
 
 -- and in what is only authenticated
 of-only-authenticated : (k : ℕ) → List·Memᴰ k only-authenticated-refusals → (text : List ℕ) × (required : List ℕ) × (room : ℕ) × Answers (write-only-authenticated text required room) k
-unfolding every section-refusals only-authenticated-refusals write-only-authenticated
+unfolding section-refusals only-authenticated-refusals write-only-authenticated
 of-only-authenticated k h =
     ⊎-elim (λ e. ([], 0 ∷ 0 ∷ [], 0, answered (write-only-authenticated [] (0 ∷ 0 ∷ []) 0) _ k (no-output ∙ ap some (sym e))))
     (λ i. ⊎-elim (λ e. ([], 0 ∷ [], 0, answered (write-only-authenticated [] (0 ∷ []) 0) _ k (odd-table ∙ ap some (sym e))))
@@ -107,23 +90,14 @@ of-only-authenticated k h =
     (one-apart 28 (31 ∷ common) only-authenticated-refusals refl k h)
 
 -- a body
-without-21 : (which : Which) → every (λ k. eqb k 21 || elem (listed-for which tolerant) k) (listed-for which strict) ≡ true
-unfolding every opening-refusals section-refusals reserved-refusals frame-refusals closing-refusals body-refusals
+without-21 : (which : Which) → has-all (21 ∷ listed-for which tolerant) (listed-for which strict) ≡ true
+unfolding opening-refusals section-refusals reserved-refusals frame-refusals closing-refusals body-refusals
 without-21 either = refl
 without-21 v1-only = refl
 without-21 v2-only = refl
 
-without-13 : (which : Which) → every (λ k. eqb k 13 || elem (others (listed-for which tolerant)) k) (listed-for which tolerant) ≡ true
-unfolding every opening-refusals section-refusals reserved-refusals frame-refusals closing-refusals body-refusals
-without-13 either = refl
-without-13 v1-only = refl
-without-13 v2-only = refl
-
 body-answered : (which : Which) (mode : Mode) (k : ℕ) → List·Memᴰ k (listed-for which tolerant) → Answers (read-header-body which mode (at-most 1) 4 0) k
-body-answered which mode k h =
-    ⊎-elim (λ e. answered (read-header-body which mode (at-most 1) 4 0) (long-body which, 0) k (long-in-body which mode ∙ ap some (sym e)))
-    (each-answered (read-header-body which mode (at-most 1) 4 0) (body-calls which) (others (listed-for which tolerant)) (body-answers which mode) k)
-    (one-apart 13 (others (listed-for which tolerant)) (listed-for which tolerant) (without-13 which) k h)
+body-answered which mode k h = each-answered (read-header-body which mode (at-most 1) 4 0) (body-calls which) (listed-for which tolerant) (body-answers which mode) k h
 
 of-body : (which : Which) (mode : Mode) (k : ℕ) → List·Memᴰ k (listed-for which mode) → Answers (read-header-body which mode (at-most 1) 4 0) k
 of-body which tolerant k h = body-answered which tolerant k h

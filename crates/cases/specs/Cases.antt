@@ -1,4 +1,4 @@
--- The cases that document 01 marks, in its order, in one table with one statement. Assumes nothing.
+-- The cases that document 01 marks, in its order, in one table with one statement, with those that document 02 answers by 32. Assumes nothing.
 use mathlib.Core.Path.{_≡_, refl}
 use mathlib.Core.Bool.{Bool, true, false, _&&_}
 use mathlib.Core.Option.{Option, none, some}
@@ -6,12 +6,12 @@ use mathlib.Core.List.{List, [], _∷_, _++_}
 use Prim.Native.Nat.{ℕ}
 use lib.Dec.{eqb}
 use lib.ListN.{take}
-use Rattle.format.specs.Read.{_>>=_, _>>_, return, test, repeat, framed, Answer, accepted, refused, at, operation}
+use Rattle.format.specs.Read.{_>>=_, _>>_, return, test, held, repeat, framed, Answer, accepted, refused, at, operation}
 use Rattle.format.specs.Serialize.{read, read-uint, read-uint8, read-uint16, write-uint16, read-uint32, write-uint32, read-short-length-seq, write-short-length-seq, images, sum, every, same-bytes}
 use Rattle.format.specs.Utf8.{rows, first-byte, octets}
 use Rattle.format.specs.Shared.{suites, version-in, read-message-format-version, read-esdk-suite-id, read-content-type, frame-fits}
 use Rattle.format.specs.Fields.{Fields, HeaderBody}
-use Rattle.format.specs.Context.{seen, today, write-aad-pair, write-aad-pairs, write-aad, write-expanded-aad-section, write-aad-section, Mode, tolerant, strict, read-text, read-aad-pair, read-next-aad-pair, read-aad, read-aad-of, read-aad-section, read-aad-section-into}
+use Rattle.format.specs.Context.{seen, today, write-aad-pair, write-aad-pairs, write-aad, write-expanded-aad-section, write-aad-section, Mode, tolerant, strict, read-text, read-aad-pair, read-next-aad-pair, read-aad-by, read-aad, read-aad-of, read-aad-section, read-aad-section-into}
 use Rattle.format.specs.Keys.{no-max, write-encrypted-data-key, write-encrypted-data-keys, write-encrypted-data-keys-section, read-encrypted-data-key, read-encrypted-data-keys-section}
 use Rattle.format.specs.Body.{either, read-opening-of, read-opening, read-closing-of, read-closing, after-context, after-opening, read-body, read-header-body, write-opening-of, write-closing-of, image}
 use Rattle.format.specs.Checks.{first, each, pairs-checks, keys-checks, body-checks}
@@ -89,11 +89,12 @@ cases =
     ∷ section strict (0x00 ∷ 0x02 ∷ 0x00 ∷ 0x00 ∷ []) (refuses 21 0)
     ∷ section tolerant (0x00 ∷ 0x02 ∷ 0x00 ∷ 0x01 ∷ []) (refuses 8 0)
     ∷ section tolerant (0x00 ∷ 0x03 ∷ 0x00 ∷ 0x00 ∷ 0x00 ∷ []) (refuses 9 0)
-    ∷ section tolerant (0x00 ∷ 0x01 ∷ 0x00 ∷ []) (shortage-at 4)
+    ∷ section tolerant (0x00 ∷ 0x01 ∷ 0x00 ∷ []) (refuses 32 0)
+    ∷ section tolerant (0x00 ∷ 0x01 ∷ 0x00 ∷ 0x00 ∷ []) (refuses 32 0)
     ∷ section tolerant (0x00 ∷ 0x06 ∷ 0x00 ∷ 0x01 ∷ 0x00 ∷ 0x00 ∷ 0x00 ∷ 0x00 ∷ []) (accepts 8 (6 ∷ 0 ∷ 8 ∷ 0 ∷ []))
     ∷ section tolerant (0x00 ∷ 0x0A ∷ 0x00 ∷ 0x02 ∷ 0x00 ∷ 0x00 ∷ 0x00 ∷ 0x00 ∷ 0x00 ∷ 0x00 ∷ 0x00 ∷ 0x00 ∷ []) (refuses 12 0)
-    ∷ section tolerant (0x00 ∷ 0x04 ∷ 0x00 ∷ 0x01 ∷ 0x00 ∷ 0x05 ∷ []) (shortage-at 11)
-    ∷ section tolerant (0x00 ∷ 0x04 ∷ 0x00 ∷ 0x01 ∷ 0x00 ∷ 0x05 ∷ 0x61 ∷ 0x62 ∷ 0x63 ∷ 0x64 ∷ 0x65 ∷ 0x00 ∷ 0x00 ∷ []) (refuses 14 0)
+    ∷ section tolerant (0x00 ∷ 0x04 ∷ 0x00 ∷ 0x01 ∷ 0x00 ∷ 0x05 ∷ []) (refuses 32 0)
+    ∷ section tolerant (0x00 ∷ 0x04 ∷ 0x00 ∷ 0x01 ∷ 0x00 ∷ 0x05 ∷ 0x61 ∷ 0x62 ∷ 0x63 ∷ 0x64 ∷ 0x65 ∷ 0x00 ∷ 0x00 ∷ []) (refuses 32 0)
     ∷ body H 0 (accepts 58 (1 ∷ 0x80 ∷ 0x0178 ∷ 4 ∷ 16 ∷ 26 ∷ 4 ∷ 32 ∷ 2 ∷ 38 ∷ 2 ∷ 42 ∷ 1 ∷ 45 ∷ 3 ∷ 2 ∷ 12 ∷ 4096 ∷ 0 ∷ 0 ∷ []))
     ∷ writes H-fields H
     ∷ body (take 22 H) 0 (shortage-at 34)
@@ -102,7 +103,7 @@ cases =
 
 -- to unfold this is to unfold all that a reader is made of
 unfoldable pub opened : Unit {0}
-unfolding _>>=_ _>>_ return test repeat framed at operation read read-uint read-uint8 read-uint16 read-uint32 read-short-length-seq sum same-bytes rows first-byte octets suites version-in read-message-format-version read-esdk-suite-id read-content-type frame-fits seen read-text read-aad-pair read-next-aad-pair read-aad read-aad-of read-aad-section read-aad-section-into read-encrypted-data-key read-encrypted-data-keys-section read-opening-of read-opening read-closing-of read-closing after-context after-opening read-body read-header-body
+unfolding _>>=_ _>>_ return test held repeat framed at operation read read-uint read-uint8 read-uint16 read-uint32 read-short-length-seq sum same-bytes rows first-byte octets suites version-in read-message-format-version read-esdk-suite-id read-content-type frame-fits seen read-text read-aad-pair read-next-aad-pair read-aad-by read-aad read-aad-of read-aad-section read-aad-section-into read-encrypted-data-key read-encrypted-data-keys-section read-opening-of read-opening read-closing-of read-closing after-context after-opening read-body read-header-body
 opened = tt
 
 -- and a writer

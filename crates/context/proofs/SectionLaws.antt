@@ -2,20 +2,22 @@
 use mathlib.Core.Path.{_≡_, refl, sym, ap, subst, _∙_}
 use mathlib.Core.Bool.{Bool, true, false}
 use mathlib.Core.List.{List, []}
-use Prim.Native.Nat.{ℕ, _+_, _≤_, _<_}
+use Prim.Native.Nat.{ℕ, suc, _+_, _≤_, _<_}
 use native.Mathlib.Omega.{arith}
 use mir.Syntax.{w64}
 use mir.Val.{Fits}
 use borrow.Author.Tests.{eq-eqb, ne-eqb}
 use lib.ListN.{length}
-use Rattle.format.specs.Read.{accepted, refused, repeat, framed, at}
+use Rattle.format.specs.Read.{end-at, Answer, accepted, refused, repeat, framed, at}
 use Rattle.format.specs.Serialize.{read-uint16}
 use Rattle.format.specs.Fields.{PairAt}
-use Rattle.format.specs.Context.{read-next-aad-pair, read-aad, read-aad-of, read-aad-section}
+use Rattle.format.specs.Context.{read-next-aad-pair, read-aad-by, read-aad, read-aad-of, read-aad-section}
+use Rattle.format.specs.Places.{number16}
+use Rattle.format.proofs.Tests.{leb-is, nleb-is}
 use Rattle.steps.proofs.Tidy.{uint16-tidy}
-use Rattle.steps.proofs.Steps.{go, stop, pass, fail, gives, all-read}
+use Rattle.steps.proofs.Steps.{go, stop, pass, fail, held-pass, held-fail, gives, all-read}
 use Rattle.steps.proofs.Frames.{frame-short, frame-stops, frame-fits, frame-differs}
-use Rattle.steps.proofs.Numbers.{uint16-known}
+use Rattle.steps.proofs.Numbers.{uint16-got, uint16-known}
 use Rattle.wire.specs.Codes.{because, number-of, why-number}
 use Rattle.wire.specs.declared.Refusal.{Refusal}
 use Rattle.wire.specs.declared.Number.{Number}
@@ -30,7 +32,7 @@ use Rattle.entries.specs.declared.Next.the-variants as next
 use Rattle.entries.proofs.Answers.{Went, next-got, next-no}
 use Rattle.entries.proofs.Walk.{all-length}
 use Rattle.context.specs.Codes.{context-of, old-of}
-use Rattle.context.specs.Stepping.{AfterAll, ReadAll, AfterSection, Indexes}
+use Rattle.context.specs.Stepping.{Space, AfterAll, ReadAll, AfterSection, Indexes}
 use Rattle.context.specs.declared.ContextAnswer.{ContextAnswer}
 use Rattle.context.specs.declared.ContextAnswer.the-variants.{Accepted, Refused}
 use Rattle.pair_index.proofs.SeenLaws.{indexed-start}
@@ -43,88 +45,106 @@ module _ (mode : Mode) (r : ContextAnswer) (tail : ℕ) where
   pub old-strict : mode ≡ Strict → r ≡ Refused (because 21 0) → r ≡ old-of mode tail
   old-strict e f = f ∙ sym (rw e)
 
--- the count, by the tests on it
-module _ (mode : Mode) (m : List ℕ) (s n count first : ℕ) (c : at read-uint16 m s ≡ accepted count first) where
-  aad-8 : n ≡ 2 → (count ≡ 0 → ⊥) → at (read-aad (mode-of mode) n) m s ≡ refused 8 0
-  unfolding read-aad
-  aad-8 h k = go _ uint16-tidy m s count first c ∙ rw (eq-eqb n 2 h, ne-eqb count 0 k) (fail 8 false _ m first refl)
+-- the count that stands in a section of length n, by the tests on it
+module _ (mode : Mode) (m : List ℕ) (s n count : ℕ) (room : 2 ≤ n) (there : s + 2 ≤ length m) (is : count ≡ number16 m s) where
+  abbrev aad : Answer (List PairAt)
+  aad = at (read-aad (mode-of mode) n (end-at (s + n))) m s
 
-  aad-9 : (n ≡ 2 → ⊥) → count ≡ 0 → at (read-aad (mode-of mode) n) m s ≡ refused 9 0
+  counted-by : aad ≡ at (read-aad-by (read-next-aad-pair (end-at (s + n))) (mode-of mode) n) m s
   unfolding read-aad
+  counted-by = held-pass (end-at (s + n)) 2 _ m s (nleb-is (suc (s + n)) (s + 2) (omega arith))
+
+  c : at read-uint16 m s ≡ accepted count (s + 2)
+  c = uint16-got m s there ∙ ap (λ (k : ℕ). accepted k (s + 2)) (sym is)
+
+  aad-8 : n ≡ 2 → (count ≡ 0 → ⊥) → aad ≡ refused 8 0
+  unfolding read-aad-by
+  aad-8 h k = counted-by ∙ go _ uint16-tidy m s count (s + 2) c ∙ rw (eq-eqb n 2 h, ne-eqb count 0 k) (fail 8 false _ m (s + 2) refl)
+
+  aad-9 : (n ≡ 2 → ⊥) → count ≡ 0 → aad ≡ refused 9 0
+  unfolding read-aad-by
   aad-9 h k =
-      go _ uint16-tidy m s count first c
-      ∙ rw (ne-eqb n 2 h, eq-eqb count 0 k) (pass 8 true _ m first refl ∙ pass 21 true _ m first refl ∙ fail 9 false _ m first refl)
+      counted-by ∙ go _ uint16-tidy m s count (s + 2) c
+      ∙ rw (ne-eqb n 2 h, eq-eqb count 0 k) (pass 8 true _ m (s + 2) refl ∙ pass 21 true _ m (s + 2) refl ∙ fail 9 false _ m (s + 2) refl)
 
-  aad-many : (n ≡ 2 → ⊥) → (count ≡ 0 → ⊥) → at (read-aad (mode-of mode) n) m s ≡ at (repeat count read-next-aad-pair []) m first
-  unfolding read-aad
+  aad-many : (n ≡ 2 → ⊥) → (count ≡ 0 → ⊥) → aad ≡ at (repeat count (read-next-aad-pair (end-at (s + n))) []) m (s + 2)
+  unfolding read-aad-by
   aad-many h k =
-      go _ uint16-tidy m s count first c
-      ∙ rw (ne-eqb n 2 h, ne-eqb count 0 k) (pass 8 true _ m first refl ∙ pass 21 true _ m first refl ∙ pass 9 true _ m first refl)
+      counted-by ∙ go _ uint16-tidy m s count (s + 2) c
+      ∙ rw (ne-eqb n 2 h, ne-eqb count 0 k) (pass 8 true _ m (s + 2) refl ∙ pass 21 true _ m (s + 2) refl ∙ pass 9 true _ m (s + 2) refl)
 
-  aad-old : n ≡ 2 → count ≡ 0 → mode ≡ Tolerant → at (read-aad (mode-of mode) n) m s ≡ accepted [] first
-  unfolding read-aad
+  aad-old : n ≡ 2 → count ≡ 0 → mode ≡ Tolerant → aad ≡ accepted [] (s + 2)
+  unfolding read-aad-by
   aad-old h k e =
-      go _ uint16-tidy m s count first c
-      ∙ rw (h, k, e) (pass 8 true _ m first refl ∙ pass 21 true _ m first refl ∙ pass 9 true _ m first refl ∙ all-read read-next-aad-pair next-pair-tidy m [] first)
+      counted-by ∙ go _ uint16-tidy m s count (s + 2) c
+      ∙ rw (eq-eqb n 2 h, k, e) (pass 8 true _ m (s + 2) refl ∙ pass 21 true _ m (s + 2) refl ∙ pass 9 true _ m (s + 2) refl ∙ all-read _ (next-pair-tidy (end-at (s + n))) m [] (s + 2))
 
-  aad-21 : n ≡ 2 → count ≡ 0 → mode ≡ Strict → at (read-aad (mode-of mode) n) m s ≡ refused 21 0
-  unfolding read-aad
-  aad-21 h k e = go _ uint16-tidy m s count first c ∙ rw (h, k, e) (pass 8 true _ m first refl ∙ fail 21 false _ m first refl)
+  aad-21 : n ≡ 2 → count ≡ 0 → mode ≡ Strict → aad ≡ refused 21 0
+  unfolding read-aad-by
+  aad-21 h k e = counted-by ∙ go _ uint16-tidy m s count (s + 2) c ∙ rw (eq-eqb n 2 h, k, e) (pass 8 true _ m (s + 2) refl ∙ fail 21 false _ m (s + 2) refl)
 
 -- what follows the length
-module _ (mode : Mode) (m : List ℕ) (s n : ℕ) (g : s + n ≤ length m) (x : Number) (is : x ≡ number-of (at read-uint16 m s)) where
-  stops : (k p : ℕ) → at (read-aad (mode-of mode) n) m s ≡ refused k p → at (framed n 14 (read-aad (mode-of mode) n)) m s ≡ refused k p
+module _ (mode : Mode) (m : List ℕ) (s n : ℕ) (g : s + n ≤ length m) where
+  abbrev framed-at : Answer (List PairAt)
+  framed-at = at (framed n 14 (read-aad (mode-of mode) n)) m s
+
+  stops : (k p : ℕ) → at (read-aad (mode-of mode) n (end-at (s + n))) m s ≡ refused k p → framed-at ≡ refused k p
   stops k p e = frame-stops n 14 (read-aad (mode-of mode) n) m s (omega arith) g k p e
 
-  pub counted-none : (q : Refusal) → x ≡ number.Not q → (a : Refusal) → a ≡ why-number x → Refused a ≡ context-of (at (framed n 14 (read-aad (mode-of mode) n)) m s)
+  -- a length of 1 has no room for the count
+  pub counted-32 : n < 2 → (r : ContextAnswer) → r ≡ Refused (because 32 0) → r ≡ context-of framed-at
   unfolding read-aad
-  counted-none q b a f = rw (f, b, stops _ _ (stop _ uint16-tidy m s _ _ (number-no (at read-uint16 m s) x is q b)))
+  counted-32 h r f = f ∙ sym (rw (stops 32 0 (held-fail (end-at (s + n)) 2 _ m s (leb-is (suc (s + n)) (s + 2) (omega arith)))))
 
-  module _ (count first : ℕ) (b : x ≡ number.Is count first) where
-    c : at read-uint16 m s ≡ accepted count first
-    c = number-got (at read-uint16 m s) x is count first b
+  module _ (room : 2 ≤ n) where
+    pub counted-there : s + 2 ≤ length m
+    counted-there = omega arith
 
-    first-in : first ≤ length m
-    first-in = let y = uint16-known m s count first c in omega arith
+    module _ (count : ℕ) (is : count ≡ number16 m s) where
+      module _ (r : ContextAnswer) where
+        pub counted-old : n ≡ 2 → count ≡ 0 → r ≡ old-of mode (s + 2) → r ≡ context-of framed-at
+        counted-old h k f = f ∙ by mode refl
+          where
+            by : (w : Mode) → mode ≡ w → old-of mode (s + 2) ≡ context-of framed-at
+            by Tolerant e =
+                let o = frame-fits n 14 (read-aad (mode-of mode) n) m s (omega arith) g [] (s + 2) (aad-old mode m s n count room counted-there is h k e) (omega arith) in
+                ap (λ (w : Mode). old-of w (s + 2)) e ∙ sym (ap context-of o)
+            by Strict e = ap (λ (w : Mode). old-of w (s + 2)) e ∙ sym (ap context-of (stops 21 0 (aad-21 mode m s n count room counted-there is h k e)))
 
-    module _ (r : ContextAnswer) where
-      pub counted-old : n ≡ 2 → count ≡ 0 → r ≡ old-of mode first → r ≡ context-of (at (framed n 14 (read-aad (mode-of mode) n)) m s)
-      counted-old h k f = f ∙ by mode refl
-        where
-          by : (w : Mode) → mode ≡ w → old-of mode first ≡ context-of (at (framed n 14 (read-aad (mode-of mode) n)) m s)
-          by Tolerant e =
-              let y = uint16-known m s count first c in
-              let o = frame-fits n 14 (read-aad (mode-of mode) n) m s (omega arith) g [] first (aad-old mode m s n count first c h k e) (omega arith) in
-              ap (λ (w : Mode). old-of w first) e ∙ sym (ap context-of o)
-          by Strict e = ap (λ (w : Mode). old-of w first) e ∙ sym (ap context-of (stops 21 0 (aad-21 mode m s n count first c h k e)))
+        pub counted-8 : n ≡ 2 → (count ≡ 0 → ⊥) → r ≡ Refused (because 8 0) → r ≡ context-of framed-at
+        counted-8 h k f = f ∙ sym (rw (stops 8 0 (aad-8 mode m s n count room counted-there is h k)))
 
-      pub counted-8 : n ≡ 2 → (count ≡ 0 → ⊥) → r ≡ Refused (because 8 0) → r ≡ context-of (at (framed n 14 (read-aad (mode-of mode) n)) m s)
-      counted-8 h k f = f ∙ sym (rw (stops 8 0 (aad-8 mode m s n count first c h k)))
+        pub counted-9 : (n ≡ 2 → ⊥) → count ≡ 0 → r ≡ Refused (because 9 0) → r ≡ context-of framed-at
+        counted-9 h k f = f ∙ sym (rw (stops 9 0 (aad-9 mode m s n count room counted-there is h k)))
 
-      pub counted-9 : (n ≡ 2 → ⊥) → count ≡ 0 → r ≡ Refused (because 9 0) → r ≡ context-of (at (framed n 14 (read-aad (mode-of mode) n)) m s)
-      counted-9 h k f = f ∙ sym (rw (stops 9 0 (aad-9 mode m s n count first c h k)))
+      module _ (h : n ≡ 2 → ⊥) (k : count ≡ 0 → ⊥) (room′ : ℕ) (keys : List ℕ) (e : Next) (all : ReadAll m (s + 2) (s + n) count room′ keys e) where
+        abbrev pairs : Answer (List PairAt)
+        pairs = at (repeat count (read-next-aad-pair (end-at (s + n))) []) m (s + 2)
 
-    module _ (h : n ≡ 2 → ⊥) (k : count ≡ 0 → ⊥) (room : ℕ) (keys : List ℕ) (e : Next) (all : ReadAll m first count room keys e) where
-      eIs : e ≡ next-of (at (repeat count read-next-aad-pair []) m first)
-      eIs = all .answer
+        eIs : e ≡ next-of pairs
+        eIs = all .answer
 
-      pub counted-stop : (q : Refusal) → e ≡ next.Not q → (a : Refusal) → a ≡ why-next e → Refused a ≡ context-of (at (framed n 14 (read-aad (mode-of mode) n)) m s)
-      counted-stop q d a f =
-          rw (f, d, stops _ _ (aad-many mode m s n count first c h k ∙ next-no (at (repeat count read-next-aad-pair []) m first) e eIs q d))
+        pub counted-stop : (q : Refusal) → e ≡ next.Not q → (a : Refusal) → a ≡ why-next e → Refused a ≡ context-of framed-at
+        counted-stop q d a f = rw (f, d, stops _ _ (aad-many mode m s n count room counted-there is h k ∙ next-no pairs e eIs q d))
 
-      module _ (t : ℕ) (d : e ≡ next.At t) (r : ContextAnswer) where
-        went : Went (at (repeat count read-next-aad-pair []) m first) t
-        went = next-got (at (repeat count read-next-aad-pair []) m first) e eIs t d
+        module _ (t : ℕ) (d : e ≡ next.At t) (r : ContextAnswer) where
+          went : Went pairs t
+          went = next-got pairs e eIs t d
 
-        pub counted-14 : (t ≡ s + n → ⊥) → r ≡ Refused (because 14 0) → r ≡ context-of (at (framed n 14 (read-aad (mode-of mode) n)) m s)
-        counted-14 j f =
-            f
-            ∙ sym (ap context-of (frame-differs n 14 (read-aad (mode-of mode) n) m s (omega arith) g (went .item) t (aad-many mode m s n count first c h k ∙ went .is) j))
+          abbrev read : at (read-aad (mode-of mode) n (end-at (s + n))) m s ≡ accepted (went .item) t
+          read = aad-many mode m s n count room counted-there is h k ∙ went .is
 
-        pub counted-whole : t ≡ s + n → r ≡ Accepted count t → r ≡ context-of (at (framed n 14 (read-aad (mode-of mode) n)) m s)
-        counted-whole j f =
-            f ∙ ap (λ (i : ℕ). Accepted i t) (sym (all-length pair-kind m count first first-in (went .item) t (went .is)))
-            ∙ sym (ap context-of (frame-fits n 14 (read-aad (mode-of mode) n) m s (omega arith) g (went .item) t (aad-many mode m s n count first c h k ∙ went .is) j))
+          pub counted-14 : (t ≡ s + n → ⊥) → r ≡ Refused (because 14 0) → r ≡ context-of framed-at
+          counted-14 j f = f ∙ sym (ap context-of (frame-differs n 14 (read-aad (mode-of mode) n) m s (omega arith) g (went .item) t read j))
+
+          pub counted-whole : t ≡ s + n → r ≡ Accepted count t → r ≡ context-of framed-at
+          counted-whole j f =
+              f ∙ ap (λ (i : ℕ). Accepted i t) (sym (all-length (pair-kind (end-at (s + n))) m count (s + 2) counted-there (went .item) t (went .is)))
+              ∙ sym (ap context-of (frame-fits n 14 (read-aad (mode-of mode) n) m s (omega arith) g (went .item) t read j))
+
+-- where the section's pairs may stand
+pub counted-space : (m : List ℕ) (s n : ℕ) → s + n ≤ length m → n < 65536 → 2 ≤ n → Space m (s + 2) (s + n)
+counted-space m s n g few room = record { near = omega arith; inside = g }
 
 -- a section at a place
 module _ (mode : Mode) (m : List ℕ) (s : ℕ) (x : Number) (is : x ≡ number-of (at read-uint16 m s)) where
@@ -171,13 +191,12 @@ module _ (m : List ℕ) (first room : ℕ) (keys : List ℕ) (r : ContextAnswer)
   indexes-old Tolerant t e = indexes-empty t e
   indexes-old Strict t e = indexes-refused (because 21 0) e
 
+pub indexes-pairs : (m : List ℕ) (s end n room : ℕ) (keys : List ℕ) (e : Next) → ReadAll m s end n room keys e → (t : ℕ) → e ≡ next.At t → (r : ContextAnswer) → r ≡ Accepted n t → Indexes m s room keys r
+indexes-pairs m s end n room keys e all t d r f = record { after = subst (AfterSection m s room keys) (sym f) (subst (AfterAll m s n room keys) d (all .after)) }
+
 module _ (m : List ℕ) (s : ℕ) (x : Number) (is : x ≡ number-of (at read-uint16 m s)) (n first : ℕ) (b : x ≡ number.Is n first) (room : ℕ) (keys : List ℕ) where
   behind : first ≡ s + 2
   behind = let y = uint16-known m s n first (number-got (at read-uint16 m s) x is n first b) in omega arith
-
-  pub indexes-pairs : (e : Next) → ReadAll m first n room keys e → (t : ℕ) → e ≡ next.At t → (r : ContextAnswer) → r ≡ Accepted n t → Indexes m (s + 2) room keys r
-  indexes-pairs e all t d r f =
-      record { after = rw (← behind) (subst (AfterSection m first room keys) (sym f) (subst (AfterAll m first n room keys) d (all .after))) }
 
   pub indexes-rest : (r : ContextAnswer) → Indexes m (first + 2) room keys r → Indexes m (s + 4) room keys r
   indexes-rest r h = let z : s + 4 ≡ first + 2 = omega (arith, behind) in rw z h

@@ -1,25 +1,26 @@
 // The pairs of a context, one behind the other.
 use entries::Next;
 use index::least;
+use wire::End;
 use wire::Span;
 use wire::reading;
 use wire::refusals;
 use wire::refuse;
 ghost use mathlib.Core.Path.{_≡_};
 ghost use mathlib.Core.List.{[]};
-ghost use Prim.Native.Nat.{_≤_, _<_};
+ghost use Prim.Native.Nat.{_+_, _≤_, _<_};
 ghost use lib.ListN.{length};
-ghost use Rattle.format.specs.Read.{at, repeat};
+ghost use Rattle.format.specs.Read.{end-at, at, repeat};
 ghost use Rattle.format.specs.Context.{read-aad-pair, read-next-aad-pair};
 ghost use Rattle.entries.specs.Codes.{next-of};
-ghost use Rattle.context.specs.Stepping.{Onward, Stepped, Reached, ReadUpTo, ReadAll, Lendable, HasRoom};
+ghost use Rattle.context.specs.Stepping.{Space, Onward, Stepped, Reached, ReadUpTo, ReadAll, Lendable, HasRoom};
 
-// ReadAADPair: a key and a value, both UTF-8.
-fn read_pair(m: &[u8], s: u64) -> Next
+// ReadAADPair: a key and a value, both UTF-8, that stay within the section's end.
+fn read_pair(m: &[u8], s: u64, end: u64) -> Next
     requires { ⌜ (s < 4294967296) × (length (now m) < 4294967296) ⌝ }
-    ensures { λ r. ⌜ r ≡ next-of (at read-aad-pair (now (m .entry)) s) ⌝ }
+    ensures { λ r. ⌜ r ≡ next-of (at (read-aad-pair (end-at end)) (now (m .entry)) s) ⌝ }
 {
-    let k = reading::read_text(m, s, refusals::KEY_NOT_UTF8);
+    let k = reading::read_text(m, s, End::At(end), refusals::KEY_NOT_UTF8);
     let Span::At {
         start: _,
         len: _,
@@ -28,7 +29,7 @@ fn read_pair(m: &[u8], s: u64) -> Next
     else {
         return Next::Not(k.refusal());
     };
-    let v = reading::read_text(m, second, refusals::VALUE_NOT_UTF8);
+    let v = reading::read_text(m, second, End::At(end), refusals::VALUE_NOT_UTF8);
     let Span::At {
         start: _,
         len: _,
@@ -41,40 +42,38 @@ fn read_pair(m: &[u8], s: u64) -> Next
 }
 
 // A step of ReadAADPairs: the pair behind the first `done` pairs. Its key goes into the index of theirs.
-fn next_pair(m: &[u8], first: u64, done: usize, s: u64, keys: &mut [u16]) -> Next
-    requires { ⌜ Onward (now m) first done s (now keys) × (length (now m) < 4294967296) ⌝ }
-    ensures { λ r. ⌜ Stepped (now (m .entry)) first done s (now (keys .exit)) r ⌝ }
+fn next_pair(m: &[u8], first: u64, end: u64, done: usize, s: u64, keys: &mut [u16]) -> Next
+    requires { ⌜ Onward (now m) first end done s (now keys) × (length (now m) < 4294967296) ⌝ }
+    ensures { λ r. ⌜ Stepped (now (m .entry)) first end done s (now (keys .exit)) r ⌝ }
 {
-    let p = read_pair(m, s);
+    let p = read_pair(m, s, end);
     let Next::At(tail) = p else {
         return p;
     };
     if pair_index::seen_or_add(m, first, done, s, keys) {
         return Next::Not(refuse(refusals::KEY_SEEN_BEFORE));
     }
-    if tail - first < 65534 {
-        return Next::At(tail);
-    }
-    Next::Not(refuse(refusals::PAIRS_TOO_LONG))
+    Next::At(tail)
 }
 
 // Goes on from the first `from` of `count` pairs, which end at `start`, to the first `to`.
 fn pairs_up_to(
     m: &[u8],
     first: u64,
+    end: u64,
     count: usize,
     from: usize,
     to: usize,
     start: u64,
     keys: &mut [u16],
 ) -> Next
-    requires { ⌜ Reached (now m) first count from start (now keys) × (from ≤ to) × (to ≤ count) × (length (now m) < 4294967296) × (length (now keys) < 16384 → to ≤ length (now keys)) ⌝ }
-    ensures { λ r. ⌜ ReadUpTo (now (m .entry)) first count to (now (keys .exit)) r ⌝ }
+    requires { ⌜ Reached (now m) first end count from start (now keys) × (from ≤ to) × (to ≤ count) × (length (now m) < 4294967296) × (length (now keys) < 16384 → to ≤ length (now keys)) ⌝ }
+    ensures { λ r. ⌜ ReadUpTo (now (m .entry)) first end count to (now (keys .exit)) r ⌝ }
 {
     let mut i = from;
     let mut s = start;
     while i < to {
-        let n = next_pair(m, first, i, s, keys);
+        let n = next_pair(m, first, end, i, s, keys);
         let Next::At(t) = n else {
             return n;
         };
@@ -88,28 +87,37 @@ fn pairs_up_to(
 fn pairs_with_largest(
     m: &[u8],
     first: u64,
+    end: u64,
     count: usize,
     from: usize,
     start: u64,
     keys: &[u16],
 ) -> Next
-    requires { ⌜ Reached (now m) first count from start (now keys) × (length (now keys) ≤ 16384) × (length (now m) < 4294967296) ⌝ }
-    ensures { λ r. ⌜ r ≡ next-of (at (repeat count read-next-aad-pair []) (now (m .entry)) first) ⌝ }
+    requires { ⌜ Reached (now m) first end count from start (now keys) × (length (now keys) ≤ 16384) × (length (now m) < 4294967296) ⌝ }
+    ensures { λ r. ⌜ r ≡ next-of (at (repeat count (read-next-aad-pair (end-at end)) []) (now (m .entry)) first) ⌝ }
 {
     let mut largest = [0u16; 16384];
     index::copy(keys, &mut largest[..]);
-    pairs_up_to(m, first, count, from, count, start, &mut largest[..])
+    pairs_up_to(m, first, end, count, from, count, start, &mut largest[..])
 }
 
 // Goes on to the last pair. Where the index is full, a larger one takes its place, written whole only then. An array takes its room on
 // the stack as soon as its function is called: so the largest has a function of its own, which waits for the pairs that fill the one
 // before it. That this function calls itself is what keeps the compiler from joining it, and the largest array, with its caller's frame.
-fn pairs_from(m: &[u8], first: u64, count: usize, from: usize, start: u64, keys: &mut [u16]) -> Next
-    requires { ⌜ Reached (now m) first count from start (now keys) × (length (now keys) ≤ 512) × (length (now m) < 4294967296) ⌝ }
-    ensures { λ r. ⌜ r ≡ next-of (at (repeat count read-next-aad-pair []) (now (m .entry)) first) ⌝ }
+fn pairs_from(
+    m: &[u8],
+    first: u64,
+    end: u64,
+    count: usize,
+    from: usize,
+    start: u64,
+    keys: &mut [u16],
+) -> Next
+    requires { ⌜ Reached (now m) first end count from start (now keys) × (length (now keys) ≤ 512) × (length (now m) < 4294967296) ⌝ }
+    ensures { λ r. ⌜ r ≡ next-of (at (repeat count (read-next-aad-pair (end-at end)) []) (now (m .entry)) first) ⌝ }
 {
     let to = least(count, keys.len());
-    let n = pairs_up_to(m, first, count, from, to, start, keys);
+    let n = pairs_up_to(m, first, end, count, from, to, start, keys);
     let Next::At(s) = n else {
         return n;
     };
@@ -119,9 +127,9 @@ fn pairs_from(m: &[u8], first: u64, count: usize, from: usize, start: u64, keys:
     if keys.len() < 512 {
         let mut larger = [0u16; 512];
         index::copy(keys, &mut larger[..]);
-        return pairs_from(m, first, count, to, s, &mut larger[..]);
+        return pairs_from(m, first, end, count, to, s, &mut larger[..]);
     }
-    pairs_with_largest(m, first, count, to, s, keys)
+    pairs_with_largest(m, first, end, count, to, s, keys)
 }
 
 // Whether an index of so many places has room for n pairs: one of 16,384 has it for as many as any section holds.
@@ -134,14 +142,15 @@ fn has_room(room: usize, n: usize) -> bool
     n <= room
 }
 
-// ReadAADPairs: where the `count` pairs from `first` on end. An index with room for them has them afterwards.
-pub(crate) fn read_pairs(m: &[u8], first: u64, count: u64, keys: &mut [u16]) -> Next
-    requires { ⌜ (first ≤ length (now m)) × (length (now m) < 4294967296) × Lendable (length (now keys)) ⌝ }
-    ensures { λ r. ⌜ ReadAll (now (m .entry)) first count (length (now (keys .entry))) (now (keys .exit)) r ⌝ }
+// ReadAADPairs: where the `count` pairs from `first` on end, which stay within the section's end. An index with room for them has them
+// afterwards.
+pub(crate) fn read_pairs(m: &[u8], first: u64, end: u64, count: u64, keys: &mut [u16]) -> Next
+    requires { ⌜ Space (now m) first end × (first ≤ end) × (length (now m) < 4294967296) × Lendable (length (now keys)) ⌝ }
+    ensures { λ r. ⌜ ReadAll (now (m .entry)) first end count (length (now (keys .entry))) (now (keys .exit)) r ⌝ }
 {
     let n = count as usize;
     if has_room(keys.len(), n) {
-        return pairs_up_to(m, first, n, 0, n, first, keys);
+        return pairs_up_to(m, first, end, n, 0, n, first, keys);
     }
-    pairs_from(m, first, n, 0, first, keys)
+    pairs_from(m, first, end, n, 0, first, keys)
 }

@@ -30,17 +30,15 @@ fn old_empty(mode: Mode, tail: u64) -> ContextAnswer
 
 // What follows the section's length n, which the message has: a count and the pairs.
 fn counted(m: &[u8], s: u64, n: u64, mode: Mode, keys: &mut [u16]) -> ContextAnswer
-    requires { ⌜ (s + n ≤ length (now m)) × (length (now m) < 4294967296) × Lendable (length (now keys)) ⌝ }
+    requires { ⌜ (s + n ≤ length (now m)) × (n < 65536) × (length (now m) < 4294967296) × Lendable (length (now keys)) ⌝ }
     ensures { λ r. ⌜ (r ≡ context-of (at (framed n 14 (read-aad (mode-of mode) n)) (now (m .entry)) s)) × Indexes (now (m .entry)) (s + 2) (length (now (keys .entry))) (now (keys .exit)) r ⌝ }
 {
-    let x = reading::read_u16(m, s);
-    let Number::Is {
-        value: count,
-        tail: first,
-    } = x
-    else {
-        return ContextAnswer::Refused(x.refusal());
-    };
+    if n < 2 {
+        return refused(refusals::PAST_SECTION);
+    }
+    let count = reading::known_u16(m, s);
+    let first = s + 2;
+    let end = s + n;
     if n == 2 {
         if count == 0 {
             return old_empty(mode, first);
@@ -50,11 +48,11 @@ fn counted(m: &[u8], s: u64, n: u64, mode: Mode, keys: &mut [u16]) -> ContextAns
     if count == 0 {
         return refused(refusals::NO_COUNT_IN_CONTEXT);
     }
-    let e = pairs::read_pairs(m, first, count, keys);
+    let e = pairs::read_pairs(m, first, end, count, keys);
     let Next::At(tail) = e else {
         return ContextAnswer::Refused(e.refusal());
     };
-    if tail == s + n {
+    if tail == end {
         return accepted(count, tail);
     }
     refused(refusals::CONTEXT_LENGTH)

@@ -12,7 +12,8 @@ use Rattle.format.specs.Context.{Form, write-aad-pair}
 use Rattle.format.specs.Keys.{write-encrypted-data-key, write-encrypted-data-keys-section}
 use Rattle.format.specs.Body.{Request, whole, after-context, after-opening, read-body, image}
 use Rattle.format.proofs.Exact.{Exact, seq-exact, check-exact, check-as, give-exact, revalue, length-puts, map-puts}
-use Rattle.format.proofs.Context.{pair-at, Context, ContextOk, context-bytes, context-at, section-exact}
+use Rattle.format.proofs.Context.{pair-at, Context, ContextOk, context-bytes, context-at}
+use Rattle.format.proofs.Section.{section-exact}
 use Rattle.format.proofs.Keys.{key-at, KeysOk, keys-at, keys-exact}
 use Rattle.format.proofs.Ends.{Top, TopOk, top-bytes, top-at, v1-of, opening-exact, End, EndOk, end-bytes, end-at, closing-exact}
 

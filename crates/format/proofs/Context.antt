@@ -1,27 +1,28 @@
--- The context section is read exactly as it is written, in either form. Assumes nothing.
+-- The source's reading of a context section is exact: what is written is read, in either form, and nothing else (ours: proofs/Section). Assumes nothing.
 use mathlib.Core.Path.{_≡_, refl, sym, ap, _∙_}
 use mathlib.Core.Bool.{Bool, true, false, not, _&&_, _||_}
-use mathlib.Core.List.{List, [], _∷_, _++_, append-nil, map}
+use mathlib.Core.List.{List, [], _∷_, _++_, append-nil, map, map-append}
 use Prim.Native.Nat.{ℕ, _+_, _<_}
 use native.Mathlib.Omega.{arith}
 use native.Mathlib.Nat.{add-assoc}
 use lib.Dec.{ltb, eqb}
 use lib.ListN.{length, length-append}
-use Rattle.format.specs.Read.{_>>=_, _>>_, return, test, repeat, framed}
-use Rattle.format.specs.Serialize.{Bytes, Part, write-uint16, write-short-length-seq, entry-length, images, sum}
+use Rattle.format.specs.Read.{Reader, _>>=_, _>>_, return, test, no-end, repeat, framed}
+use Rattle.format.specs.Serialize.{Bytes, Part, read-uint16, write-uint16, write-short-length-seq, entry-length, images, sum}
 use Rattle.format.specs.Utf8.{valid-utf8-seq}
 use Rattle.format.specs.Fields.{Pair, PairAt, pair-of}
-use Rattle.format.specs.Context.{seen, pair-length, linear-length, pairs-limit, Form, today, old, write-aad-pair, write-aad-pairs, write-aad, write-expanded-aad-section, write-aad-section, section-in, Mode, tolerant, strict, is-strict, read-text, read-aad-pair, read-next-aad-pair, read-aad, read-aad-of, read-aad-section}
+use Rattle.format.specs.Context.{seen, pair-length, linear-length, pairs-limit, Form, today, old, write-aad-pair, write-aad-pairs, write-aad, write-expanded-aad-section, write-aad-section, section-in, Mode, tolerant, strict, is-strict, read-text, read-aad-pair, read-aad-by}
+use Rattle.format.specs.Source.{source-read-next-aad-pair, source-read-aad-of}
 use Rattle.format.specs.Sections.{Allowed}
 use Rattle.format.proofs.Tests.{is-leb, is-eqb, neqb-is}
-use Rattle.format.proofs.Exact.{Exact, seq-exact, check-exact, give-exact, revalue, framed-exact, many-exact, Oks, puts}
+use Rattle.format.proofs.Exact.{Exact, seq-exact, seq-exact-if, check-exact, give-exact, revalue, framed-exact, many-exact, Oks, puts}
 use Rattle.format.proofs.Serialize.{uint16-exact, length-uint16, length-entry, entry-exact, entry-at, Short}
 
 -- a text
 abbrev pub TextOk : List ℕ → Type 0
 TextOk bytes = Short bytes × (valid-utf8-seq bytes ≡ true)
 
-pub text-exact : (k : ℕ) → Exact (read-text k) TextOk write-short-length-seq entry-at
+pub text-exact : (k : ℕ) → Exact (read-text no-end k) TextOk write-short-length-seq entry-at
 unfolding read-text
 text-exact k =
     revalue TextOk write-short-length-seq entry-at
@@ -37,7 +38,7 @@ pub record PairOk (p : Pair) : Type 0 where
 abbrev pub pair-at : ℕ → Pair → PairAt
 pair-at s p = record { key = entry-at s (p .key); value = entry-at (s + length (write-short-length-seq (p .key))) (p .value) }
 
-pair-exact : Exact read-aad-pair PairOk write-aad-pair pair-at
+pair-exact : Exact (read-aad-pair no-end) PairOk write-aad-pair pair-at
 unfolding read-aad-pair write-aad-pair
 pair-exact =
     revalue PairOk write-aad-pair pair-at
@@ -51,8 +52,8 @@ pub record NextOk (acc : List Pair) (p : Pair) : Type 0 where
   pub new : not (seen (p .key) acc) ≡ true
   pub room : ltb (linear-length acc + pair-length p) pairs-limit ≡ true
 
-next-exact : (acc : List PairAt) → Exact (read-next-aad-pair acc) (NextOk (map pair-of acc)) write-aad-pair pair-at
-unfolding read-next-aad-pair
+next-exact : (acc : List PairAt) → Exact (source-read-next-aad-pair acc) (NextOk (map pair-of acc)) write-aad-pair pair-at
+unfolding source-read-next-aad-pair
 next-exact acc =
     revalue (NextOk (map pair-of acc)) write-aad-pair pair-at
     (seq-exact _ pair-exact λ s p. check-exact 12 _ (check-exact 13 _ (give-exact _)))
@@ -82,6 +83,9 @@ unfolding sum
 linear-length-snoc [] p = omega arith
 linear-length-snoc (q ∷ acc) p = let h = linear-length-snoc acc p in omega arith
 
+pub with-one-more : (acc : List PairAt) (p : PairAt) → linear-length (map pair-of (acc ++ (p ∷ []))) ≡ linear-length (map pair-of acc) + pair-length (pair-of p)
+with-one-more acc p = ap linear-length (map-append pair-of acc (p ∷ [])) ∙ linear-length-snoc (map pair-of acc) (pair-of p)
+
 -- 13 at each pair is 13 at the last
 pub room-all : (acc ps : List Pair) → linear-length acc < pairs-limit → Oks NextOk acc ps → linear-length acc + linear-length ps < pairs-limit
 unfolding sum
@@ -100,32 +104,32 @@ record AadOk (mode : Mode) (n : ℕ) (ps : List Pair) : Type 0 where
   t9 : (eqb n 2 || not (eqb (length ps) 0)) ≡ true
   each : Oks NextOk [] ps
 
-abbrev aad-at : ℕ → List Pair → List PairAt
+abbrev pub aad-at : ℕ → List Pair → List PairAt
 aad-at s ps = puts write-aad-pair pair-at (s + 2) ps
 
-aad-exact : (mode : Mode) (n : ℕ) → Exact (read-aad mode n) (AadOk mode n) write-aad aad-at
-unfolding read-aad write-aad write-aad-pairs
+aad-exact : (mode : Mode) (n : ℕ) → Exact (read-aad-by source-read-next-aad-pair mode n) (AadOk mode n) write-aad aad-at
+unfolding read-aad-by write-aad write-aad-pairs
 aad-exact mode n =
     revalue (AadOk mode n) write-aad aad-at
-    (seq-exact _ uint16-exact λ s count. check-exact 8 _ (check-exact 21 _ (check-exact 9 _ (many-exact NextOk write-aad-pair pair-at pair-of (λ s p. refl) read-next-aad-pair next-exact count []))))
+    (seq-exact _ uint16-exact λ s count. check-exact 8 _ (check-exact 21 _ (check-exact 9 _ (many-exact NextOk write-aad-pair pair-at pair-of (λ s p. refl) source-read-next-aad-pair next-exact count []))))
     (λ w o.
     let e : length (w .1) ≡ w .0 = o .1 .1 .1 .1 .0 in
     (w .1, record { few = rw e (o .0); t8 = rw e (o .1 .0); t21 = o .1 .1 .0; t9 = rw e (o .1 .1 .1 .0); each = o .1 .1 .1 .1 .1 }, rw e refl, λ s. rw length-uint16 refl))
     (λ ps o. ((length ps, ps), (o .few, (o .t8, (o .t21, (o .t9, (refl, o .each))))), refl, λ s. rw length-uint16 refl))
 
 -- what follows the length n; true: n is 0
-OfOk : Mode → ℕ → Bool → List Pair → Type 0
+pub OfOk : Mode → ℕ → Bool → List Pair → Type 0
 OfOk mode n true ps = ps ≡ []
 OfOk mode n false ps = AadOk mode n ps × (length (write-aad ps) ≡ n)
 
-of-bytes : Bool → List Pair → List ℕ
+pub of-bytes : Bool → List Pair → List ℕ
 of-bytes true ps = []
 of-bytes false ps = write-aad ps
 
-of-exact : (mode : Mode) (b : Bool) (n : ℕ) → Exact (read-aad-of mode b n) (OfOk mode n b) (of-bytes b) aad-at
-unfolding read-aad-of OfOk of-bytes puts
+pub of-exact : (mode : Mode) (b : Bool) (n : ℕ) → Exact (source-read-aad-of mode b n) (OfOk mode n b) (of-bytes b) aad-at
+unfolding source-read-aad-of OfOk of-bytes puts
 of-exact mode true n = revalue (OfOk mode n true) (of-bytes true) aad-at (give-exact []) (λ w o. ([], refl, refl, λ s. refl)) (λ ps o. (tt, tt, refl, λ s. rw o refl))
-of-exact mode false n = framed-exact n 14 (aad-exact mode n)
+of-exact mode false n = framed-exact n 14 (λ e. aad-exact mode n)
 
 -- a context with the form that it is written in
 pub record Context : Type 0 where
@@ -203,9 +207,11 @@ from-context mode old [] o =
 from-context mode today (p ∷ ps) o = from-pairs mode p ps (o .few) (o .each)
 from-context mode old (p ∷ ps) o = from-pairs mode p ps (o .few) (o .each)
 
-pub section-exact : (mode : Mode) → Exact (read-aad-section mode) (ContextOk mode) context-bytes context-at
-unfolding read-aad-section Found From
-section-exact mode =
-    revalue (ContextOk mode) context-bytes context-at (seq-exact _ uint16-exact λ s n. of-exact mode (eqb n 0) n)
+-- a section, by what follows its length: any reader that is exact there, as the source's is
+pub section-exact-by : (mode : Mode) (of : Bool → ℕ → Reader (List PairAt)) → ((b : Bool) (n : ℕ) → n < 65536 → Exact (of b n) (OfOk mode n b) (of-bytes b) aad-at)
+    → Exact (read-uint16 >>= λ n. of (eqb n 0) n) (ContextOk mode) context-bytes context-at
+unfolding Found From
+section-exact-by mode of h =
+    revalue (ContextOk mode) context-bytes context-at (seq-exact-if _ uint16-exact λ s n o. h (eqb n 0) n o)
     (λ w o. to-context mode (w .0) (w .1) (eqb (w .0) 0) refl (o .1))
     (λ c o. from-context mode (c .form) (c .pairs) o)

@@ -8,7 +8,7 @@ use native.Mathlib.Omega.{arith}
 use native.Mathlib.Nat.{add-assoc, add-zero}
 use lib.Dec.{leb, eqb}
 use lib.ListN.{length, length-append}
-use Rattle.format.specs.Read.{ReadResult, success, more-needed, error, Reader, go-on, _>>=_, _>>_, return, test, repeat, framed}
+use Rattle.format.specs.Read.{ReadResult, success, more-needed, error, Reader, go-on, _>>=_, _>>_, return, test, End, no-end, end-at, held, repeat, framed}
 use Rattle.format.specs.Serialize.{Bytes, images}
 use Rattle.format.proofs.Tests.{leb-is, nleb-is, is-leb, is-nleb, eqb-is, is-eqb}
 
@@ -41,13 +41,13 @@ module _ {A : Type 0} where
   pub error-is-no-success : {C : Type 0} {k : ℕ} {a : A} {l : List ℕ} {t : ℕ} → _≡_ {A = ReadResult A} (error k) (success a l t) → C
   error-is-no-success e = let z : _≡_ {A = ℕ} 0 1 = cc in absurd (omega arith)
 
--- one thing and then another, which may depend on it
+-- one thing and then another, which may depend on it and may count on its being good
 module _ {A B W X : Type 0} where
-  pub seq-exact : {r : Reader A} (f : A → Reader B) {ok₁ : W → Type 0} {img₁ : W → List ℕ} {put₁ : ℕ → W → A} {ok₂ : W → X → Type 0} {img₂ : W → X → List ℕ} {put₂ : ℕ → W → ℕ → X → B}
-      → Exact r ok₁ img₁ put₁ → ((s : ℕ) (w : W) → Exact (f (put₁ s w)) (ok₂ w) (img₂ w) (put₂ s w))
+  pub seq-exact-if : {r : Reader A} (f : A → Reader B) {ok₁ : W → Type 0} {img₁ : W → List ℕ} {put₁ : ℕ → W → A} {ok₂ : W → X → Type 0} {img₂ : W → X → List ℕ} {put₂ : ℕ → W → ℕ → X → B}
+      → Exact r ok₁ img₁ put₁ → ((s : ℕ) (w : W) → ok₁ w → Exact (f (put₁ s w)) (ok₂ w) (img₂ w) (put₂ s w))
       → Exact (r >>= f) (λ (x : W × X). ok₁ (x .0) × ok₂ (x .0) (x .1)) (λ (x : W × X). img₁ (x .0) ++ img₂ (x .0) (x .1)) (λ s (x : W × X). put₂ s (x .0) (s + length (img₁ (x .0))) (x .1))
   unfolding _>>=_
-  seq-exact {r} f {ok₁} {img₁} {put₁} {ok₂} {img₂} {put₂} hr hf = record { sound = λ l s c l′ t hb. go l s c l′ t hb (r l s) refl; complete = back }
+  seq-exact-if {r} f {ok₁} {img₁} {put₁} {ok₂} {img₂} {put₂} hr hf = record { sound = λ l s c l′ t hb. go l s c l′ t hb (r l s) refl; complete = back }
     where
       Both : List ℕ → ℕ → B → List ℕ → ℕ → Type 0
       Both = Took (λ (x : W × X). ok₁ (x .0) × ok₂ (x .0) (x .1)) (λ (x : W × X). img₁ (x .0) ++ img₂ (x .0) (x .1)) (λ s (x : W × X). put₂ s (x .0) (s + length (img₁ (x .0))) (x .1))
@@ -66,7 +66,7 @@ module _ {A B W X : Type 0} where
       go : (l : List ℕ) (s : ℕ) (c : B) (l′ : List ℕ) (t : ℕ) → Bytes l → (x : ReadResult A) → r l s ≡ x → go-on x f ≡ success c l′ t → Both l s c l′ t
       go l s c l′ t hb (success a l₁ t₁) e₁ e₂ =
           let x : Took ok₁ img₁ put₁ l s a l₁ t₁ = hr .sound l s a l₁ t₁ hb e₁ in
-          join l s c l′ t a l₁ t₁ x (hf s (x .value) .sound l₁ t₁ c l′ t (bytes-right (img₁ (x .value)) l₁ (rw (x .split) at hb)) (rw (x .placed) at e₂))
+          join l s c l′ t a l₁ t₁ x (hf s (x .value) (x .good) .sound l₁ t₁ c l′ t (bytes-right (img₁ (x .value)) l₁ (rw (x .split) at hb)) (rw (x .placed) at e₂))
       go l s c l′ t hb (more-needed p) e₁ e₂ = more-is-no-success e₂
       go l s c l′ t hb (error k) e₁ e₂ = error-is-no-success e₂
 
@@ -76,13 +76,24 @@ module _ {A B W X : Type 0} where
           rw (
             append-assoc (img₁ w) (img₂ w v) l,
             hr .complete w s (img₂ w v ++ l) o,
-            hf s w .complete v (s + length (img₁ w)) l p,
+            hf s w o .complete v (s + length (img₁ w)) l p,
             length-append (img₁ w) (img₂ w v),
             add-assoc,
           )
 
+module _ {A B W X : Type 0} where
+  pub seq-exact : {r : Reader A} (f : A → Reader B) {ok₁ : W → Type 0} {img₁ : W → List ℕ} {put₁ : ℕ → W → A} {ok₂ : W → X → Type 0} {img₂ : W → X → List ℕ} {put₂ : ℕ → W → ℕ → X → B}
+      → Exact r ok₁ img₁ put₁ → ((s : ℕ) (w : W) → Exact (f (put₁ s w)) (ok₂ w) (img₂ w) (put₂ s w))
+      → Exact (r >>= f) (λ (x : W × X). ok₁ (x .0) × ok₂ (x .0) (x .1)) (λ (x : W × X). img₁ (x .0) ++ img₂ (x .0) (x .1)) (λ s (x : W × X). put₂ s (x .0) (s + length (img₁ (x .0))) (x .1))
+  seq-exact f hr hf = seq-exact-if f hr (λ s w o. hf s w)
+
 -- a test
 module _ {A W : Type 0} where
+  -- that of an end which is none
+  pub free-exact : (n : ℕ) {q : Reader A} {ok : W → Type 0} {img : W → List ℕ} {put : ℕ → W → A} → Exact q ok img put → Exact (held no-end n >> q) ok img put
+  unfolding held test _>>_
+  free-exact n h = record { sound = h .sound; complete = h .complete }
+
   pub check-exact : (k : ℕ) (b : Bool) {q : Reader A} {ok : W → Type 0} {img : W → List ℕ} {put : ℕ → W → A} → Exact q ok img put
       → Exact (test k b >> q) (λ w. (b ≡ true) × ok w) img put
   unfolding test _>>_
@@ -135,19 +146,29 @@ module _ {A W X : Type 0} where
       → ((x : X) → ok′ x → (w : W) × ok w × (img′ x ≡ img w) × ((s : ℕ) → put′ s x ≡ put s w)) → Exact r ok′ img′ put′
   revalue ok′ img′ put′ h f g = revalue-bytes ok′ img′ put′ h (λ w o hb. f w o) g
 
+-- the next n bytes end at e or before, or past it
+module _ {A : Type 0} (e n : ℕ) (q : Reader A) (l : List ℕ) (s : ℕ) where
+  pub held-fits : s + n ≤ e → (held (end-at e) n >> q) l s ≡ q l s
+  unfolding held test _>>_
+  held-fits h = rw (nleb-is (suc e) (s + n) (omega arith)) refl
+
+  pub held-past : e < s + n → (held (end-at e) n >> q) l s ≡ error 32
+  unfolding held test _>>_
+  held-past h = rw (leb-is (suc e) (s + n) (omega arith)) refl
+
 -- n bytes that are there as a whole, and a reader that ends where they do
 module _ {A : Type 0} where
-  pub framed-fits : (n k : ℕ) (r : Reader A) (l : List ℕ) (s : ℕ) → n ≤ length l
-      → framed n k r l s ≡ (r >>= λ a l′ t. go-on (test k (eqb t (s + n)) l′ t) (λ u. return a)) l s
+  pub framed-fits : (n k : ℕ) (r : End → Reader A) (l : List ℕ) (s : ℕ) → n ≤ length l
+      → framed n k r l s ≡ (r (end-at (s + n)) >>= λ a l′ t. go-on (test k (eqb t (s + n)) l′ t) (λ u. return a)) l s
   unfolding framed
   framed-fits n k r l s h = rw (leb-is n (length l) h, framed)
 
-  pub framed-short : (n k : ℕ) (r : Reader A) (l : List ℕ) (s : ℕ) → length l < n → framed n k r l s ≡ more-needed (s + n)
+  pub framed-short : (n k : ℕ) (r : End → Reader A) (l : List ℕ) (s : ℕ) → length l < n → framed n k r l s ≡ more-needed (s + n)
   unfolding framed
   framed-short n k r l s h = rw (nleb-is n (length l) h, framed)
 
 module _ {A W : Type 0} where
-  framed-sound : (n k : ℕ) (r : Reader A) (ok : W → Type 0) (img : W → List ℕ) (put : ℕ → W → A) → Exact r ok img put → (l : List ℕ) (s : ℕ) (a : A) (l′ : List ℕ) (t : ℕ) → Bytes l
+  framed-sound : (n k : ℕ) (r : End → Reader A) (ok : W → Type 0) (img : W → List ℕ) (put : ℕ → W → A) → ((e : End) → Exact (r e) ok img put) → (l : List ℕ) (s : ℕ) (a : A) (l′ : List ℕ) (t : ℕ) → Bytes l
       → framed n k r l s ≡ success a l′ t → Took (λ w. ok w × (length (img w) ≡ n)) img put l s a l′ t
   unfolding _>>=_ test return
   framed-sound n k r ok img put hr l s a l′ t hb e = go (leb n (length l)) refl
@@ -163,17 +184,17 @@ module _ {A W : Type 0} where
           record { value = x .value; good = (x .good, omega arith); split = rw (← p₂) (x .split); tail = cc; placed = rw (← p₁) (x .placed) }
       last a₁ l₁ t₁ x false h q = error-is-no-success q
 
-      mid : (x : ReadResult A) → r l s ≡ x → go-on x (λ a l′ t. go-on (test k (eqb t (s + n)) l′ t) (λ u. return a)) ≡ success a l′ t
+      mid : (x : ReadResult A) → r (end-at (s + n)) l s ≡ x → go-on x (λ a l′ t. go-on (test k (eqb t (s + n)) l′ t) (λ u. return a)) ≡ success a l′ t
           → Took (λ w. ok w × (length (img w) ≡ n)) img put l s a l′ t
-      mid (success a₁ l₁ t₁) e₁ e₂ = last a₁ l₁ t₁ (hr .sound l s a₁ l₁ t₁ hb e₁) (eqb t₁ (s + n)) refl e₂
+      mid (success a₁ l₁ t₁) e₁ e₂ = last a₁ l₁ t₁ (hr (end-at (s + n)) .sound l s a₁ l₁ t₁ hb e₁) (eqb t₁ (s + n)) refl e₂
       mid (more-needed p) e₁ e₂ = more-is-no-success e₂
       mid (error p) e₁ e₂ = error-is-no-success e₂
 
       go : (b : Bool) → leb n (length l) ≡ b → Took (λ w. ok w × (length (img w) ≡ n)) img put l s a l′ t
-      go true h = mid (r l s) refl (sym (framed-fits n k r l s (is-leb n (length l) h)) ∙ e)
+      go true h = mid (r (end-at (s + n)) l s) refl (sym (framed-fits n k r l s (is-leb n (length l) h)) ∙ e)
       go false h = more-is-no-success (sym (framed-short n k r l s (is-nleb n (length l) h)) ∙ e)
 
-  pub framed-exact : (n k : ℕ) {r : Reader A} {ok : W → Type 0} {img : W → List ℕ} {put : ℕ → W → A} → Exact r ok img put
+  pub framed-exact : (n k : ℕ) {r : End → Reader A} {ok : W → Type 0} {img : W → List ℕ} {put : ℕ → W → A} → ((e : End) → Exact (r e) ok img put)
       → Exact (framed n k r) (λ w. ok w × (length (img w) ≡ n)) img put
   unfolding _>>=_ test return
   framed-exact n k {r} {ok} {img} {put} hr =
@@ -183,7 +204,7 @@ module _ {A W : Type 0} where
             let d : length (img w) ≡ n = o .1 in
             rw (
               framed-fits n k r (img w ++ l) s (simp length-append (omega arith)),
-              hr .complete w s l (o .0),
+              hr (end-at (s + n)) .complete w s l (o .0),
               eqb-is (s + length (img w)) (s + n) (omega arith),
             )
             refl;

@@ -14,7 +14,8 @@ use Rattle.format.specs.Demand3.{Held, Each, Has, here, there, Differ, F
 use Rattle.format.proofs.Tests.{is-eqb, eqb-is}
 use Rattle.format.proofs.Firsts.{both, or-right}
 use Rattle.format.proofs.Exact.{Oks, puts, map-puts}
-use Rattle.format.proofs.Context.{NextOk, pair-at, section-exact}
+use Rattle.format.proofs.Context.{NextOk, pair-at}
+use Rattle.format.proofs.Section.{section-exact}
 use Rattle.format.proofs.Held.{context-held}
 use Rattle.format.proofs.Messages.{accepted-took, refused-stays, accepted-goes-on}
 

@@ -8,17 +8,17 @@ use native.Mathlib.Omega.{arith}
 use lib.Dec.{leb, ltb, eqb}
 use lib.ListN.{length, drop}
 use lib.Seq.{drop-cons}
-use Rattle.format.specs.Read.{Reader, _>>=_, _>>_, return, test, Answer, accepted, refused, answer, at, addressable, operation}
+use Rattle.format.specs.Read.{Reader, _>>=_, _>>_, return, test, End, no-end, end-at, Answer, accepted, refused, answer, at, addressable, operation}
 use Rattle.format.specs.Serialize.{Part, read, read-uint, read-uint8, read-uint16, read-uint32, read-short-length-seq}
 use Rattle.format.specs.Utf8.{valid-utf8-seq}
 use Rattle.format.specs.Shared.{by, read-message-format-version, read-esdk-suite-id, read-content-type, suite-version}
 use Rattle.format.specs.Fields.{PairAt, pair-of}
-use Rattle.format.specs.Context.{Mode, is-strict, seen, read-text, read-aad-pair, read-next-aad-pair, read-aad, read-aad-of, read-aad-section, read-aad-section-into}
+use Rattle.format.specs.Context.{Mode, is-strict, seen, read-text, read-aad-pair, read-next-aad-pair, read-aad-by, read-aad, read-aad-of, read-aad-section, read-aad-section-into}
 use Rattle.format.specs.Keys.{Max, read-encrypted-data-key, read-encrypted-data-keys-section, read-encrypted-data-keys-section-into}
 use Rattle.format.specs.Places.{number-here, number8, number16, number32, part-of, entry-here, entry-end, pair-here, pair-end, pairs-here, pairs-end, key-here, key-end, section-pairs, section-keys, section-keys-end}
-use Rattle.format.specs.First.{Line, lacks, when, unless, entry-list, each-list, pair-list, context-list-of, context-list, key-list, keys-list, context-into-list, keys-into-list}
+use Rattle.format.specs.First.{Line, lacks, when, unless, held-list, entry-list, each-list, pair-list, context-list-of, context-list, key-list, keys-list, context-into-list, keys-into-list}
 use Rattle.format.proofs.Tests.{is-leb, is-nleb, is-eqb}
-use Rattle.format.proofs.Lines.{first-line, one-none, join-none, Goes, goes-as, return-goes, bind-goes, test-goes, not-goes, read-goes, repeat-goes, framed-goes}
+use Rattle.format.proofs.Lines.{first-line, one-none, join-none, Goes, goes-as, return-goes, bind-goes, test-goes, not-goes, held-goes, read-goes, repeat-goes, framed-goes}
 
 -- the numbers of 1, 2 and 4 bytes, byte by byte
 module _ (m : List ℕ) (s : ℕ) where
@@ -58,45 +58,45 @@ pub uint32-goes : Goes read-uint32 (λ m s. lacks 4 m s ∷ []) number32 (λ m s
 unfolding read-uint32
 uint32-goes = goes-as (uint-goes 4) (λ m s. refl) (λ m s e. (is-number32 m s (there 4 m s (omega arith) e), refl))
 
-entry-goes : Goes read-short-length-seq entry-list entry-here entry-end
+entry-goes : (e : End) → Goes (read-short-length-seq e) (entry-list e) entry-here entry-end
 unfolding read-short-length-seq entry-list
-entry-goes = bind-goes uint16-goes read-goes
+entry-goes e = held-goes e 2 (bind-goes uint16-goes (λ n. held-goes e n (read-goes n)))
 
-text-goes : (k : ℕ) → Goes (read-text k) (λ m s. entry-list m s ++ (unless k (valid-utf8-seq (entry-here m s .bytes)) ∷ [])) entry-here entry-end
+text-goes : (e : End) (k : ℕ) → Goes (read-text e k) (λ m s. entry-list e m s ++ (unless k (valid-utf8-seq (entry-here m s .bytes)) ∷ [])) entry-here entry-end
 unfolding read-text
-text-goes k = bind-goes entry-goes (λ e. test-goes k _ (return-goes e))
+text-goes e k = bind-goes (entry-goes e) (λ p. test-goes k _ (return-goes p))
 
 -- the context section
-two-goes : Goes read-aad-pair
-    (λ m s. (entry-list m s ++ (unless 10 (valid-utf8-seq (entry-here m s .bytes)) ∷ []))
-    ++ ((entry-list m (entry-end m s) ++ (unless 11 (valid-utf8-seq (entry-here m (entry-end m s) .bytes)) ∷ [])) ++ []))
+two-goes : (e : End) → Goes (read-aad-pair e)
+    (λ m s. (entry-list e m s ++ (unless 10 (valid-utf8-seq (entry-here m s .bytes)) ∷ []))
+    ++ ((entry-list e m (entry-end m s) ++ (unless 11 (valid-utf8-seq (entry-here m (entry-end m s) .bytes)) ∷ [])) ++ []))
     pair-here pair-end
 unfolding read-aad-pair
-two-goes = bind-goes (text-goes 10) (λ k. bind-goes (text-goes 11) (λ v. return-goes _))
+two-goes e = bind-goes (text-goes e 10) (λ k. bind-goes (text-goes e 11) (λ v. return-goes _))
 
-pair-goes : (acc : List PairAt) → Goes (read-next-aad-pair acc) (pair-list acc) pair-here pair-end
+pair-goes : (e : ℕ) (acc : List PairAt) → Goes (read-next-aad-pair (end-at e) acc) (pair-list (end-at e) acc) pair-here pair-end
 unfolding read-next-aad-pair pair-list entry-list
-pair-goes acc = bind-goes two-goes (λ p. not-goes 12 (seen (p .key .bytes) (map pair-of acc)) (test-goes _ _ (return-goes p)))
+pair-goes e acc = bind-goes (two-goes (end-at e)) (λ p. not-goes 12 (seen (p .key .bytes) (map pair-of acc)) (return-goes p))
 
 -- 8, 21 and 9 in document 01's words: the definition tests 21 once 8 has passed
-in-words : (two zero strictly : Bool) (x y : Line) (rest : List Line)
-    → first-line (x ∷ y ∷ when 8 (two && not zero) ∷ when 21 (two && (zero && strictly)) ∷ when 9 (not two && zero) ∷ rest)
-    ≡ first-line (x ∷ y ∷ unless 8 (not two || zero) ∷ unless 21 (not (two && strictly)) ∷ unless 9 (two || not zero) ∷ rest)
+in-words : (two zero strictly : Bool) (x y z : Line) (rest : List Line)
+    → first-line (x ∷ y ∷ z ∷ when 8 (two && not zero) ∷ when 21 (two && (zero && strictly)) ∷ when 9 (not two && zero) ∷ rest)
+    ≡ first-line (x ∷ y ∷ z ∷ unless 8 (not two || zero) ∷ unless 21 (not (two && strictly)) ∷ unless 9 (two || not zero) ∷ rest)
 unfolding first-line
-in-words true true true x y rest = refl
-in-words true true false x y rest = refl
-in-words true false strictly x y rest = refl
-in-words false true strictly x y rest = refl
-in-words false false strictly x y rest = refl
+in-words true true true x y z rest = refl
+in-words true true false x y z rest = refl
+in-words true false strictly x y z rest = refl
+in-words false true strictly x y z rest = refl
+in-words false false strictly x y z rest = refl
 
 -- where the pairs end is where the section's length says
 context-of-goes : (mode : Mode) (b : Bool) (n : ℕ) → Goes (read-aad-of mode b n) (context-list-of mode b n)
     (λ m s. cond b [] (pairs-here m (number16 m s) (s + 2))) (λ m s. cond b s (s + n))
-unfolding read-aad-of read-aad context-list-of
+unfolding read-aad-of read-aad read-aad-by context-list-of
 context-of-goes mode true n = return-goes []
 context-of-goes mode false n =
-    goes-as (framed-goes n 14 (bind-goes uint16-goes (λ count. test-goes _ _ (test-goes _ _ (test-goes _ _ (repeat-goes pair-goes count []))))))
-    (λ m s. in-words (eqb n 2) (eqb (number16 m s) 0) (is-strict mode) _ _ _)
+    goes-as (framed-goes n 14 (read-aad mode n) (λ e. held-goes (end-at e) 2 (bind-goes uint16-goes (λ count. test-goes _ _ (test-goes _ _ (test-goes _ _ (repeat-goes (pair-goes e) count [])))))))
+    (λ m s. in-words (eqb n 2) (eqb (number16 m s) 0) (is-strict mode) _ _ _ _)
     (λ m s e. (refl, refl))
 
 pub context-goes : (mode : Mode) → Goes (read-aad-section mode) (context-list mode) section-pairs entry-end
@@ -114,7 +114,7 @@ context-into-goes mode room = bind-goes (context-goes mode) (λ ps. test-goes _ 
 -- the key section
 key-goes : Goes read-encrypted-data-key key-list key-here key-end
 unfolding read-encrypted-data-key key-list entry-list
-key-goes = bind-goes (text-goes 16) (λ p. bind-goes entry-goes (λ i. bind-goes entry-goes (λ c. return-goes _)))
+key-goes = bind-goes (text-goes no-end 16) (λ p. bind-goes (entry-goes no-end) (λ i. bind-goes (entry-goes no-end) (λ c. return-goes _)))
 
 pub keys-goes : (max : Max) → Goes (read-encrypted-data-keys-section max) (keys-list max) section-keys section-keys-end
 unfolding read-encrypted-data-keys-section keys-list

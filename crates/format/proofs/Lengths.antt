@@ -3,16 +3,17 @@ use mathlib.Core.Path.{_≡_, refl, sym, ap, _∙_}
 use mathlib.Core.Bool.{Bool, true, false, not, cond, _||_}
 use mathlib.Core.Logic.{⊎-elim}
 use mathlib.Core.Option.{Option, none, some}
-use mathlib.Core.List.{List, [], _∷_, _++_, map, map-append, List·Memᴰ, List·Memᴰ·not-nil, List·Memᴰ·cases-cons}
+use mathlib.Core.List.{List, [], _∷_, _++_, map, List·Memᴰ, List·Memᴰ·not-nil, List·Memᴰ·cases-cons}
 use Prim.Native.Nat.{ℕ, suc, _+_, _≤_, _<_}
 use native.Mathlib.Omega.{arith}
 use lib.Dec.{leb, ltb, eqb}
 use lib.ListN.{length, length-append}
-use Rattle.format.specs.Read.{ReadResult, success, more-needed, error, go-on, _>>=_, _>>_, return, test, accepted, operation}
+use Rattle.format.specs.Read.{ReadResult, success, more-needed, error, go-on, _>>=_, _>>_, return, test, no-end, accepted, operation}
 use Rattle.format.specs.Serialize.{Bytes, images}
 use Rattle.format.specs.Shared.{by, one-or-two, suite-version, id-length, iv-length, tag-length, commit-key-length}
 use Rattle.format.specs.Fields.{Pair, PairAt, pair-of, pair-parts, Fields, HeaderBody}
-use Rattle.format.specs.Context.{seen, pair-length, linear-length, pairs-limit, Mode, read-aad-pair, read-next-aad-pair}
+use Rattle.format.specs.Context.{seen, pair-length, linear-length, pairs-limit, Mode, read-aad-pair}
+use Rattle.format.specs.Source.{source-read-next-aad-pair}
 use Rattle.format.specs.Keys.{Max}
 use Rattle.format.specs.Body.{Which, Opening, read-opening, request, tests-frames, read-header-body}
 use Rattle.format.specs.Auth.{HeaderAuth, read-header-auth-tag, write-header-auth-tag}
@@ -21,7 +22,7 @@ use Rattle.format.specs.Demand3.{Has}
 use Rattle.format.specs.Lengths.{JustWhere, TakesTooMuch, Sized, version-1, version-2, OpeningSized, opening-1, opening-2, Lengths}
 use Rattle.format.proofs.Tests.{leb-is, nleb-is, is-leb, is-nleb, is-eqb}
 use Rattle.format.proofs.Firsts.{holds, unheld, split, join}
-use Rattle.format.proofs.Context.{linear-length-snoc}
+use Rattle.format.proofs.Context.{with-one-more}
 use Rattle.format.proofs.Ends.{opening-exact}
 use Rattle.format.proofs.Body.{BodyOk, body-exact}
 use Rattle.format.proofs.Accepts.{good}
@@ -32,10 +33,7 @@ use Rattle.format.proofs.Strict.{reached}
 use Rattle.format.proofs.Find.{seen-has, has-seen}
 use Rattle.format.proofs.Sections.{section-laws}
 
--- 13 on reading
-with-one-more : (acc : List PairAt) (p : PairAt) → linear-length (map pair-of (acc ++ (p ∷ []))) ≡ linear-length (map pair-of acc) + pair-length (pair-of p)
-with-one-more acc p = ap linear-length (map-append pair-of acc (p ∷ [])) ∙ linear-length-snoc (map pair-of acc) (pair-of p)
-
+-- 13 in the source's reading
 not-13 : (k : ℕ) → k ≡ 13 → List·Memᴰ k (10 ∷ 11 ∷ []) → ⊥
 not-13 k e h = ⊎-elim (λ q. omega arith) (λ m. ⊎-elim (λ q. omega arith) List·Memᴰ·not-nil (List·Memᴰ·cases-cons m)) (List·Memᴰ·cases-cons h)
 
@@ -68,16 +66,16 @@ module _ (acc : List PairAt) where
           let far : ltb (linear-length (map pair-of acc) + pair-length (pair-of p)) pairs-limit ≡ false = nleb-is (suc (linear-length (map pair-of acc) + pair-length (pair-of p))) pairs-limit (omega arith) in
           rw (q, far) refl
 
-  pairs-refused : (l : List ℕ) (s : ℕ) → JustWhere (read-next-aad-pair acc l s ≡ error 13) (TakesTooMuch acc l s)
-  unfolding read-next-aad-pair _>>=_
-  pairs-refused l s = record { onward = go (read-aad-pair l s) refl; back = λ h. ap (λ x. go-on x tests) (h .is-read) ∙ then-13 (h .pair) (h .left) (h .tail) (h .new) (h .too-much) }
+  pairs-refused : (l : List ℕ) (s : ℕ) → JustWhere (source-read-next-aad-pair acc l s ≡ error 13) (TakesTooMuch acc l s)
+  unfolding source-read-next-aad-pair _>>=_
+  pairs-refused l s = record { onward = go (read-aad-pair no-end l s) refl; back = λ h. ap (λ x. go-on x tests) (h .is-read) ∙ then-13 (h .pair) (h .left) (h .tail) (h .new) (h .too-much) }
     where
-      go : (x : ReadResult PairAt) → read-aad-pair l s ≡ x → go-on x tests ≡ error 13 → TakesTooMuch acc l s
+      go : (x : ReadResult PairAt) → read-aad-pair no-end l s ≡ x → go-on x tests ≡ error 13 → TakesTooMuch acc l s
       go (success p l′ t) e q = let z = is-13 p l′ t q in record { pair = p; left = l′; tail = t; is-read = e; new = z .0; too-much = z .1 }
       go (more-needed w) e q = let z : _≡_ {A = ℕ} 0 1 = cc in absurd (omega arith)
       go (error k) e q =
           let k13 : k ≡ 13 = cc in
-          let ten-eleven : Fine (10 ∷ 11 ∷ []) (s + length l) (read-aad-pair l s) = pair-listed .fine l s in
+          let ten-eleven : Fine (10 ∷ 11 ∷ []) (s + length l) (read-aad-pair no-end l s) = pair-listed no-end .fine l s in
           absurd (not-13 k k13 (rw e at ten-eleven))
 
 -- 13 on writing

@@ -2,6 +2,9 @@ pub mod Tests
 pub mod Exact
 pub mod Serialize
 pub mod Context
+pub mod Takes
+pub mod Compared
+pub mod Section
 pub mod Keys
 pub mod Ends
 pub mod Body
@@ -12,9 +15,12 @@ pub mod Lines
 pub mod First
 pub mod FirstBody
 pub mod Writers
+pub mod Members
 pub mod ListedLaws
 pub mod Listed
 pub mod Wanted
+pub mod Helps
+pub mod SourceEquality
 pub mod Held
 pub mod Either
 pub mod Strict

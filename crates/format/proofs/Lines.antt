@@ -10,10 +10,10 @@ use native.Mathlib.Omega.{arith}
 use lib.Dec.{leb, ltb, eqb}
 use lib.ListN.{length, drop, length-drop}
 use lib.Seq.{drop-drop}
-use Rattle.format.specs.Read.{ReadResult, success, more-needed, error, Reader, go-on, _>>=_, _>>_, return, test, repeat, framed, Answer, accepted, refused, answer, at}
+use Rattle.format.specs.Read.{ReadResult, success, more-needed, error, Reader, go-on, _>>=_, _>>_, return, test, End, no-end, end-at, held, repeat, framed, Answer, accepted, refused, answer, at}
 use Rattle.format.specs.Serialize.{Part, read, every}
 use Rattle.format.specs.Places.{part-of, items-here, items-end}
-use Rattle.format.specs.First.{Line, lacks, when, unless, NoneApplies, FirstApplies, each-list}
+use Rattle.format.specs.First.{Line, lacks, when, unless, held-list, NoneApplies, FirstApplies, each-list}
 use Rattle.format.proofs.Tests.{is-leb, is-nleb, is-eqb, eqb-is}
 use Rattle.format.proofs.Exact.{framed-fits, framed-short}
 use Rattle.format.proofs.Serialize.{read-fits, read-short}
@@ -167,6 +167,13 @@ module _ {A : Type 0} where
   not-goes k true h = test-goes k false h
   not-goes k false h = test-goes k true h
 
+  -- the test of an end
+  pub held-goes : (e : End) (n : ℕ) {r : Reader A} {list : List ℕ → ℕ → List Line} {value : List ℕ → ℕ → A} {end : List ℕ → ℕ → ℕ} → Goes r list value end
+      → Goes (held e n >> r) (λ m s. held-list e n s ++ list m s) value end
+  unfolding held test _>>_
+  held-goes no-end n h = record { passes = h .passes; stops = h .stops }
+  held-goes (end-at e) n h = record { passes = λ m s. not-goes 32 (ltb e (s + n)) h .passes m s; stops = λ m s. not-goes 32 (ltb e (s + n)) h .stops m s }
+
 -- n bytes
 pub read-goes : (n : ℕ) → Goes (read n) (λ m s. lacks n m s ∷ []) (λ m s. part-of m s n) (λ m s. s + n)
 unfolding first-line
@@ -191,16 +198,16 @@ module _ {A : Type 0} where
   repeat-goes {here = here} {end = end} h (suc n) acc =
       goes-as (bind-goes (h acc) (λ a. repeat-goes h n (acc ++ (a ∷ [])))) (λ m s. refl) (λ m s e. (append-assoc acc (here m s ∷ []) (items-here here end m n (end m s)), refl))
 
-  framed-inside : (n k : ℕ) {r : Reader A} {list : List ℕ → ℕ → List Line} {value : List ℕ → ℕ → A} {end : List ℕ → ℕ → ℕ} → Goes r list value end
-      → Goes (framed n k r) (λ m s. lacks n m s ∷ (list m s ++ (unless k (eqb (end m s) (s + n)) ∷ []))) value end
+  framed-inside : (n k : ℕ) (r : End → Reader A) {list : ℕ → List ℕ → ℕ → List Line} {value : List ℕ → ℕ → A} {end : List ℕ → ℕ → ℕ} → ((e : ℕ) → Goes (r (end-at e)) (list e) value end)
+      → Goes (framed n k r) (λ m s. lacks n m s ∷ (list (s + n) m s ++ (unless k (eqb (end m s) (s + n)) ∷ []))) value end
   unfolding first-line test return _>>=_
-  framed-inside n k {r} {list} {value} {end} h =
+  framed-inside n k r {list} {value} {end} h =
       record {
         passes = λ m s e.
             let last = unless k (eqb (end m s) (s + n)) in
-            let (f, e′) = one-none (lacks n m s) (list m s ++ (last ∷ [])) e in
-            let (e₁, e₂) = join-none (list m s) (last ∷ []) e′ in
-            rw (framed-fits n k r (drop s m) s (fits m s (is-nleb _ _ f)), h .passes m s e₁) (ended m s (eqb (end m s) (s + n)) (one-none last [] e₂ .0));
+            let (f, e′) = one-none (lacks n m s) (list (s + n) m s ++ (last ∷ [])) e in
+            let (e₁, e₂) = join-none (list (s + n) m s) (last ∷ []) e′ in
+            rw (framed-fits n k r (drop s m) s (fits m s (is-nleb _ _ f)), h (s + n) .passes m s e₁) (ended m s (eqb (end m s) (s + n)) (one-none last [] e₂ .0));
         stops = λ m s x e. by m s x (ltb (length m - s) n) refl e;
       }
     where
@@ -217,13 +224,13 @@ module _ {A : Type 0} where
       wrong m s x true q = some-is-not-none (sym q)
       wrong m s x false q = let z : unless k false ≡ x = cc in rw (← z) refl
 
-      inside : (m : List ℕ) (s : ℕ) (x : Line) → n ≤ length (drop s m) → first-line (list m s ++ (unless k (eqb (end m s) (s + n)) ∷ [])) ≡ some x
+      inside : (m : List ℕ) (s : ℕ) (x : Line) → n ≤ length (drop s m) → first-line (list (s + n) m s ++ (unless k (eqb (end m s) (s + n)) ∷ [])) ≡ some x
           → answer (framed n k r (drop s m) s) ≡ refused (x .number) (x .position)
       inside m s x f e = rw (framed-fits n k r (drop s m) s f)
-          (⊎-elim (λ e₁. stopped _ (x .number) (x .position) (r (drop s m) s) (h .stops m s x e₁))
-          (λ e₁. rw (h .passes m s (e₁ .0)) (wrong m s x (eqb (end m s) (s + n)) (e₁ .1))) (join-some (list m s) _ x e))
+          (⊎-elim (λ e₁. stopped _ (x .number) (x .position) (r (end-at (s + n)) (drop s m) s) (h (s + n) .stops m s x e₁))
+          (λ e₁. rw (h (s + n) .passes m s (e₁ .0)) (wrong m s x (eqb (end m s) (s + n)) (e₁ .1))) (join-some (list (s + n) m s) _ x e))
 
-      by : (m : List ℕ) (s : ℕ) (x : Line) (b : Bool) → ltb (length m - s) n ≡ b → by-applies b (lacks n m s) (first-line (list m s ++ (unless k (eqb (end m s) (s + n)) ∷ []))) ≡ some x
+      by : (m : List ℕ) (s : ℕ) (x : Line) (b : Bool) → ltb (length m - s) n ≡ b → by-applies b (lacks n m s) (first-line (list (s + n) m s ++ (unless k (eqb (end m s) (s + n)) ∷ []))) ≡ some x
           → answer (framed n k r (drop s m) s) ≡ refused (x .number) (x .position)
       by m s x true q e =
           let g : length m - s < n = is-leb _ _ q in
@@ -232,13 +239,13 @@ module _ {A : Type 0} where
       by m s x false q e = inside m s x (fits m s (is-nleb _ _ q)) e
 
   -- bytes that have to be there as a whole, and a reader that ends where they do
-  pub framed-goes : (n k : ℕ) {r : Reader A} {list : List ℕ → ℕ → List Line} {value : List ℕ → ℕ → A} {end : List ℕ → ℕ → ℕ} → Goes r list value end
-      → Goes (framed n k r) (λ m s. lacks n m s ∷ (list m s ++ (unless k (eqb (end m s) (s + n)) ∷ []))) value (λ m s. s + n)
-  framed-goes n k {list = list} {end = end} h =
-      goes-as (framed-inside n k h) (λ m s. refl)
+  pub framed-goes : (n k : ℕ) (r : End → Reader A) {list : ℕ → List ℕ → ℕ → List Line} {value : List ℕ → ℕ → A} {end : List ℕ → ℕ → ℕ} → ((e : ℕ) → Goes (r (end-at e)) (list e) value end)
+      → Goes (framed n k r) (λ m s. lacks n m s ∷ (list (s + n) m s ++ (unless k (eqb (end m s) (s + n)) ∷ []))) value (λ m s. s + n)
+  framed-goes n k r {list = list} {end = end} h =
+      goes-as (framed-inside n k r h) (λ m s. refl)
       (λ m s e.
       let last = unless k (eqb (end m s) (s + n)) in
-      let (e₁, e₂) = join-none (list m s) (last ∷ []) (one-none (lacks n m s) (list m s ++ (last ∷ [])) e .1) in
+      let (e₁, e₂) = join-none (list (s + n) m s) (last ∷ []) (one-none (lacks n m s) (list (s + n) m s ++ (last ∷ [])) e .1) in
       (refl, is-eqb _ _ (not-false (eqb (end m s) (s + n)) (one-none last [] e₂ .0))))
     where
       not-false : (b : Bool) → not b ≡ false → b ≡ true

@@ -1,25 +1,24 @@
 -- Which refusals a reader can answer: the numbers of its tests, in their order. Assumes nothing.
 use mathlib.Core.Path.{_≡_, refl, sym, _∙_}
 use mathlib.Core.Bool.{Bool, true, false, not, _&&_, _||_}
-use mathlib.Core.Logic.{⊎-elim}
-use mathlib.Core.List.{List, [], _∷_, _++_, List·Memᴰ, List·Memᴰ·head, List·Memᴰ·tail, List·Memᴰ·not-nil, List·Memᴰ·cases-cons}
+use mathlib.Core.List.{List, [], _∷_, _++_, List·Memᴰ, List·Memᴰ·head, List·Memᴰ·tail}
 use Prim.Native.Nat.{ℕ, _+_, _-_, _≤_}
 use native.Mathlib.Omega.{arith}
 use lib.Dec.{eqb}
 use lib.ListN.{length, drop, length-drop}
-use Rattle.format.specs.Read.{ReadResult, success, more-needed, error, Reader, _>>=_, _>>_, return, test, repeat, Answer, refused, answer, operation}
+use Rattle.format.specs.Read.{ReadResult, success, more-needed, error, Reader, _>>=_, _>>_, return, test, End, no-end, end-at, held, repeat, Answer, refused, answer, operation}
 use Rattle.format.specs.Serialize.{Part, read-uint, read-uint8, read-uint16, read-uint32, read-short-length-seq, same-bytes}
 use Rattle.format.specs.Shared.{read-message-format-version, read-esdk-suite-id, read-content-type, frame-fits}
 use Rattle.format.specs.Fields.{PairAt}
-use Rattle.format.specs.Context.{Mode, tolerant, strict, read-text, read-aad-pair, read-next-aad-pair, read-aad, read-aad-of, read-aad-section, read-aad-section-into, look-up, find-value}
+use Rattle.format.specs.Context.{Mode, tolerant, strict, read-text, read-aad-pair, read-next-aad-pair, read-aad-by, read-aad, read-aad-of, read-aad-section, read-aad-section-into, look-up, find-value}
 use Rattle.format.specs.Keys.{Max, read-encrypted-data-key, read-encrypted-data-keys-section, read-encrypted-data-keys-section-into}
 use Rattle.format.specs.Body.{Which, either, v1-only, v2-only, read-opening-of, read-opening, read-closing-of, read-closing, Opening, Request, after-context, after-opening, read-body}
 use Rattle.format.specs.Auth.{read-header-auth-tag-of, read-header-auth-tag}
 use Rattle.format.specs.OnlyAuthenticated.{fitting, write-only-authenticated}
 use Rattle.format.specs.Refusals.{section-refusals, context-refusals, find-refusals, only-authenticated-refusals, opening-refusals, reserved-refusals, frame-refusals, closing-refusals, keys-refusals, body-refusals, auth-refusals, Refusal, RefusesBy, Refusals}
-use Rattle.format.proofs.Tests.{eqb-is, is-eqb}
-use Rattle.format.proofs.ListedLaws.{Fine, Listed, also, bind-listed, then-listed, return-listed, sure-listed, test-listed, read-listed, repeat-listed, framed-listed, Gives, return-gives, bind-gives, passed-listed, passed-gives, given-listed}
-use Rattle.format.proofs.Firsts.{both}
+use Rattle.format.proofs.Tests.{is-eqb}
+use Rattle.format.proofs.Members.{has, no-member}
+use Rattle.format.proofs.ListedLaws.{Fine, Listed, listed-as, also, bind-listed, then-listed, return-listed, sure-listed, test-listed, held-refusals, held-listed, read-listed, repeat-listed, framed-listed, Gives, return-gives, bind-gives, passed-listed, passed-gives, given-listed}
 use Rattle.format.proofs.Messages.{cases}
 
 -- the leaves
@@ -39,43 +38,50 @@ uint32-listed : Listed [] read-uint32
 unfolding read-uint32
 uint32-listed = uint-listed 4
 
-entry-listed : Listed [] read-short-length-seq
-unfolding read-short-length-seq
-entry-listed = bind-listed uint16-listed read-listed
+-- an entry may be refused twice by 32
+abbrev entry-refusals : End → List ℕ
+entry-refusals e = held-refusals e ++ (held-refusals e ++ [])
 
-text-listed : (k : ℕ) → Listed (k ∷ []) (read-text k)
+entry-listed : (e : End) → Listed (entry-refusals e) (read-short-length-seq e)
+unfolding read-short-length-seq
+entry-listed e = then-listed (held-listed e 2) (bind-listed uint16-listed (λ n. then-listed (held-listed e n) (read-listed n)))
+
+text-listed : (e : End) (k : ℕ) → Listed (entry-refusals e ++ (k ∷ [])) (read-text e k)
 unfolding read-text
-text-listed k = bind-listed entry-listed (λ e. then-listed (test-listed k _) (return-listed _))
+text-listed e k = bind-listed (entry-listed e) (λ p. then-listed (test-listed k _) (return-listed _))
 
 -- the context section
-pub pair-listed : Listed (10 ∷ 11 ∷ []) read-aad-pair
+pub pair-listed : (e : End) → Listed ((entry-refusals e ++ (10 ∷ [])) ++ ((entry-refusals e ++ (11 ∷ [])) ++ [])) (read-aad-pair e)
 unfolding read-aad-pair
-pair-listed = bind-listed (text-listed 10) (λ k. bind-listed (text-listed 11) (λ v. return-listed _))
+pair-listed e = bind-listed (text-listed e 10) (λ k. bind-listed (text-listed e 11) (λ v. return-listed _))
 
-next-listed : (acc : List PairAt) → Listed (10 ∷ 11 ∷ 12 ∷ 13 ∷ []) (read-next-aad-pair acc)
+next-listed : (e : ℕ) (acc : List PairAt) → Listed (32 ∷ 10 ∷ 11 ∷ 12 ∷ []) (read-next-aad-pair (end-at e) acc)
 unfolding read-next-aad-pair
-next-listed acc = bind-listed pair-listed (λ p. then-listed (test-listed 12 _) (then-listed (test-listed 13 _) (return-listed _)))
+next-listed e acc = listed-as (32 ∷ 10 ∷ 11 ∷ 12 ∷ []) refl (bind-listed (pair-listed (end-at e)) (λ p. then-listed (test-listed 12 _) (return-listed _)))
 
 never-strict : (b : Bool) → not (b && false) ≡ true
 never-strict true = refl
 never-strict false = refl
 
-pairs-listed : (n count : ℕ) → Listed (9 ∷ 10 ∷ 11 ∷ 12 ∷ 13 ∷ []) (test 9 (eqb n 2 || not (eqb count 0)) >> repeat count read-next-aad-pair [])
-pairs-listed n count = then-listed (test-listed 9 _) (repeat-listed count next-listed [])
+-- before 14
+abbrev aad-refusals : Mode → List ℕ
+aad-refusals tolerant = 32 ∷ 8 ∷ 9 ∷ 10 ∷ 11 ∷ 12 ∷ []
+aad-refusals strict = 32 ∷ 8 ∷ 21 ∷ 9 ∷ 10 ∷ 11 ∷ 12 ∷ []
 
-aad-tolerant : (n : ℕ) → Listed (8 ∷ 9 ∷ 10 ∷ 11 ∷ 12 ∷ 13 ∷ []) (read-aad tolerant n)
-unfolding read-aad
-aad-tolerant n = bind-listed uint16-listed (λ count. then-listed (test-listed 8 _) (then-listed (sure-listed 21 (never-strict (eqb n 2))) (pairs-listed n count)))
-
-aad-strict : (n : ℕ) → Listed (8 ∷ 21 ∷ 9 ∷ 10 ∷ 11 ∷ 12 ∷ 13 ∷ []) (read-aad strict n)
-unfolding read-aad
-aad-strict n = bind-listed uint16-listed (λ count. then-listed (test-listed 8 _) (then-listed (test-listed 21 _) (pairs-listed n count)))
+aad-listed : (mode : Mode) (n e : ℕ) → Listed (aad-refusals mode) (read-aad mode n (end-at e))
+unfolding read-aad read-aad-by
+aad-listed tolerant n e =
+    listed-as (aad-refusals tolerant) refl
+    (then-listed (held-listed (end-at e) 2) (bind-listed uint16-listed (λ count. then-listed (test-listed 8 _) (then-listed (sure-listed 21 (never-strict (eqb n 2))) (then-listed (test-listed 9 _) (repeat-listed count (next-listed e) []))))))
+aad-listed strict n e =
+    listed-as (aad-refusals strict) refl
+    (then-listed (held-listed (end-at e) 2) (bind-listed uint16-listed (λ count. then-listed (test-listed 8 _) (then-listed (test-listed 21 _) (then-listed (test-listed 9 _) (repeat-listed count (next-listed e) []))))))
 
 of-listed : (mode : Mode) (b : Bool) (n : ℕ) → Listed (section-refusals mode) (read-aad-of mode b n)
 unfolding read-aad-of return section-refusals
 of-listed mode true n = record { fine = λ l s. refl }
-of-listed tolerant false n = framed-listed n 14 (aad-tolerant n)
-of-listed strict false n = framed-listed n 14 (aad-strict n)
+of-listed tolerant false n = framed-listed n 14 (read-aad tolerant n) (aad-listed tolerant n)
+of-listed strict false n = framed-listed n 14 (read-aad strict n) (aad-listed strict n)
 
 section-listed : (mode : Mode) → Listed (section-refusals mode) (read-aad-section mode)
 unfolding read-aad-section
@@ -106,7 +112,7 @@ only-authenticated-listed text required room = bind-listed (section-listed toler
 -- the key section
 key-listed : Listed (16 ∷ []) read-encrypted-data-key
 unfolding read-encrypted-data-key
-key-listed = bind-listed (text-listed 16) (λ p. bind-listed entry-listed (λ i. bind-listed entry-listed (λ c. return-listed _)))
+key-listed = bind-listed (text-listed no-end 16) (λ p. bind-listed (entry-listed no-end) (λ i. bind-listed (entry-listed no-end) (λ c. return-listed _)))
 
 keys-listed : (max : Max) → Listed (15 ∷ 16 ∷ []) (read-encrypted-data-keys-section max)
 unfolding read-encrypted-data-keys-section
@@ -235,49 +241,39 @@ module _ {A : Type 0} (ks : List ℕ) (r : Reader A) (no-two : List·Memᴰ 2 ks
       near : length m ≤ 4294967295 → s ≤ 4294967295 → operation r m s ≡ answer (r (drop s m) s) → Refusal (1 ∷ 2 ∷ ks) m k p
       near a b q = of (r (drop s m) s) (h .fine (drop s m) s) (sym q ∙ e)
 
--- none of the numbers is 2
-abbrev every-other : List ℕ → Bool
-every-other [] = true
-every-other (k ∷ ks) = not (eqb k 2) && every-other ks
-
-not-in : (ks : List ℕ) → every-other ks ≡ true → List·Memᴰ 2 ks → ⊥
-not-in [] e h = List·Memᴰ·not-nil h
-not-in (k ∷ ks) e h =
-    let z = both (not (eqb k 2)) (every-other ks) e in
-    ⊎-elim (λ q. let w : k ≡ 2 = sym q in let y : eqb k 2 ≡ true = eqb-is k 2 w in no y (z .0)) (not-in ks (z .1)) (List·Memᴰ·cases-cons h)
-  where
-    no : {b : Bool} → b ≡ true → not b ≡ true → ⊥
-    no e f = let z : _≡_ {A = ℕ} 0 1 = cc in omega arith
+-- 2 is listed by itself, and 13 not at all
+abbrev pub Without : List ℕ → Type 0
+Without ks = (has ks 2 ≡ false) × (has ks 13 ≡ false)
 
 -- the lists, by what was asked
-body-without-2 : (which : Which) (mode : Mode) (frames : Bool) → every-other (opening-refusals which ++ (section-refusals mode ++ closing-refusals which frames)) ≡ true
+pub body-without : (which : Which) (mode : Mode) (frames : Bool) → Without (opening-refusals which ++ (section-refusals mode ++ closing-refusals which frames))
 unfolding opening-refusals section-refusals reserved-refusals frame-refusals closing-refusals
-body-without-2 either tolerant true = refl
-body-without-2 either tolerant false = refl
-body-without-2 either strict true = refl
-body-without-2 either strict false = refl
-body-without-2 v1-only tolerant true = refl
-body-without-2 v1-only tolerant false = refl
-body-without-2 v1-only strict true = refl
-body-without-2 v1-only strict false = refl
-body-without-2 v2-only tolerant true = refl
-body-without-2 v2-only tolerant false = refl
-body-without-2 v2-only strict true = refl
-body-without-2 v2-only strict false = refl
+body-without either tolerant true = (refl, refl)
+body-without either tolerant false = (refl, refl)
+body-without either strict true = (refl, refl)
+body-without either strict false = (refl, refl)
+body-without v1-only tolerant true = (refl, refl)
+body-without v1-only tolerant false = (refl, refl)
+body-without v1-only strict true = (refl, refl)
+body-without v1-only strict false = (refl, refl)
+body-without v2-only tolerant true = (refl, refl)
+body-without v2-only tolerant false = (refl, refl)
+body-without v2-only strict true = (refl, refl)
+body-without v2-only strict false = (refl, refl)
 
-section-without-2 : (mode : Mode) (ks : List ℕ) → every-other ks ≡ true → every-other (section-refusals mode ++ ks) ≡ true
+pub section-without : (mode : Mode) (ks : List ℕ) → Without ks → Without (section-refusals mode ++ ks)
 unfolding section-refusals
-section-without-2 tolerant ks e = rw e refl
-section-without-2 strict ks e = rw e refl
+section-without tolerant ks e = (rw (e .0) refl, rw (e .1) refl)
+section-without strict ks e = (rw (e .0) refl, rw (e .1) refl)
 
 pub refusals : Refusals
 unfolding context-refusals find-refusals only-authenticated-refusals keys-refusals body-refusals auth-refusals
 refusals =
     record {
-      of-context = λ mode room. refuses _ _ (not-in _ (section-without-2 mode (22 ∷ []) refl)) (section-into-listed mode room);
-      of-find = λ k. refuses _ _ (not-in _ (section-without-2 tolerant (29 ∷ []) refl)) (find-listed k);
-      of-only-authenticated = λ text required room. refuses _ _ (not-in _ (section-without-2 tolerant (31 ∷ 28 ∷ []) refl)) (only-authenticated-listed text required room);
-      of-keys = λ max room. refuses _ _ (not-in _ refl) (keys-into-listed max room);
-      of-body = λ q. refuses _ _ (not-in _ (body-without-2 (q .which) (q .mode) (q .frames))) (body-listed q);
-      of-auth = λ suite. refuses _ _ (not-in _ refl) (auth-listed suite);
+      of-context = λ mode room. refuses _ _ (no-member _ 2 (section-without mode (22 ∷ []) (refl, refl) .0)) (section-into-listed mode room);
+      of-find = λ k. refuses _ _ (no-member _ 2 (section-without tolerant (29 ∷ []) (refl, refl) .0)) (find-listed k);
+      of-only-authenticated = λ text required room. refuses _ _ (no-member _ 2 (section-without tolerant (31 ∷ 28 ∷ []) (refl, refl) .0)) (only-authenticated-listed text required room);
+      of-keys = λ max room. refuses _ _ (no-member _ 2 refl) (keys-into-listed max room);
+      of-body = λ q. refuses _ _ (no-member _ 2 (body-without (q .which) (q .mode) (q .frames) .0)) (body-listed q);
+      of-auth = λ suite. refuses _ _ (no-member _ 2 refl) (auth-listed suite);
     }

@@ -7,9 +7,10 @@ use Prim.Native.Nat.{ℕ, zero, suc, _+_, _≤_, _<_}
 use native.Mathlib.Omega.{arith}
 use lib.Dec.{leb, eqb}
 use lib.ListN.{length, length-drop}
-use Rattle.format.specs.Read.{ReadResult, success, more-needed, error, Reader, go-on, _>>=_, _>>_, return, test, repeat, framed}
+use Rattle.format.specs.Read.{ReadResult, success, more-needed, error, Reader, go-on, _>>=_, _>>_, return, test, End, no-end, end-at, held, repeat, framed}
 use Rattle.format.specs.Serialize.{read}
 use Rattle.format.proofs.Tests.{is-leb, is-nleb}
+use Rattle.format.proofs.Members.{has-all, members}
 use Rattle.format.proofs.Exact.{framed-fits, framed-short, more-is-no-success, error-is-no-success}
 use Rattle.format.proofs.Serialize.{read-fits, read-short}
 
@@ -28,6 +29,10 @@ module _ {A : Type 0} where
   more ks js f n (success a l t) h = h
   more ks js f n (more-needed p) h = h
   more ks js f n (error k) h = f k h
+
+  -- by a list that has every number of the other
+  pub listed-as : {ks : List ℕ} (js : List ℕ) → has-all js ks ≡ true → {r : Reader A} → Listed ks r → Listed js r
+  listed-as {ks} js e {r} h = record { fine = λ l s. more ks js (members js ks e) (s + length l) (r l s) (h .fine l s) }
 
   pub also : (j : ℕ) {ks : List ℕ} {r : Reader A} → Listed ks r → Listed (j ∷ ks) r
   also j {ks} {r} h = record { fine = λ l s. more ks (j ∷ ks) (λ k z. List·Memᴰ·tail z) (s + length l) (r l s) (h .fine l s) }
@@ -60,6 +65,16 @@ unfolding test
 test-listed k true = record { fine = λ l s. refl }
 test-listed k false = record { fine = λ l s. List·Memᴰ·head refl }
 
+-- the test of an end
+abbrev pub held-refusals : End → List ℕ
+held-refusals no-end = []
+held-refusals (end-at e) = 32 ∷ []
+
+pub held-listed : (e : End) (n : ℕ) → Listed (held-refusals e) (held e n)
+unfolding held
+held-listed no-end n = record { fine = λ l s. sure-listed 32 refl .fine l s }
+held-listed (end-at e) n = record { fine = λ l s. test-listed 32 _ .fine l s }
+
 pub read-listed : (n : ℕ) → Listed [] (read n)
 read-listed n = record { fine = λ l s. go l s (leb n (length l)) refl }
   where
@@ -87,11 +102,11 @@ module _ {A : Type 0} where
       go true l t = refl
       go false l t = List·Memᴰ·head refl
 
-  pub framed-listed : (n k : ℕ) {ks : List ℕ} {r : Reader A} → Listed ks r → Listed (ks ++ (k ∷ [])) (framed n k r)
-  framed-listed n k {ks} {r} hr = record { fine = λ l s. go l s (leb n (length l)) refl }
+  pub framed-listed : (n k : ℕ) {ks : List ℕ} (r : End → Reader A) → ((e : ℕ) → Listed ks (r (end-at e))) → Listed (ks ++ (k ∷ [])) (framed n k r)
+  framed-listed n k {ks} r hr = record { fine = λ l s. go l s (leb n (length l)) refl }
     where
       go : (l : List ℕ) (s : ℕ) (b : Bool) → leb n (length l) ≡ b → Fine (ks ++ (k ∷ [])) (s + length l) (framed n k r l s)
-      go l s true e = rw (framed-fits n k r l s (is-leb _ _ e)) (bind-listed hr (end-listed s n k) .fine l s)
+      go l s true e = rw (framed-fits n k r l s (is-leb _ _ e)) (bind-listed (hr (s + n)) (end-listed s n k) .fine l s)
       go l s false e = let h : length l < n = is-nleb _ _ e in rw (framed-short n k r l s h) (omega arith)
 
 -- what a reader gives, where it succeeds, is good

@@ -22,7 +22,8 @@ use Rattle.format.specs.Sections.{ContextStands, ContextLaw, KeysStand, 
 use Rattle.format.proofs.Tests.{leb-is, is-leb, eqb-is, is-eqb}
 use Rattle.format.proofs.Exact.{Took, Exact, seq-exact, check-exact, check-as, give-exact, revalue, length-puts, map-puts}
 use Rattle.format.proofs.Serialize.{read-exact}
-use Rattle.format.proofs.Context.{pair-at, Context, ContextOk, context-bytes, context-at, both-allow, section-exact}
+use Rattle.format.proofs.Context.{pair-at, Context, ContextOk, context-bytes, context-at, both-allow}
+use Rattle.format.proofs.Section.{section-exact}
 use Rattle.format.proofs.Keys.{key-at, KeysOk, keys-at, keys-exact}
 use Rattle.format.proofs.Suites.{version-2}
 use Rattle.format.proofs.Firsts.{Holds, holds, unheld, split}

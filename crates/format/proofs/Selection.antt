@@ -18,7 +18,8 @@ use Rattle.format.specs.Selection.{Selects, KeysDiffer, OnlyAuthenticate
 use Rattle.format.proofs.Tests.{fails, leb-is, is-leb}
 use Rattle.format.proofs.Exact.{map-puts}
 use Rattle.format.proofs.Serialize.{length-uint16}
-use Rattle.format.proofs.Context.{pair-at, length-aad, room-all, Context, context-bytes, section-exact}
+use Rattle.format.proofs.Context.{pair-at, length-aad, room-all, Context, context-bytes}
+use Rattle.format.proofs.Section.{section-exact}
 use Rattle.format.proofs.Firsts.{holds, unheld, both, and}
 use Rattle.format.proofs.Messages.{refused-is-no-accepted, accepted-took, refused-stays, accepted-goes-on}
 use Rattle.format.proofs.Tables.{items-length, which-keys, tables}

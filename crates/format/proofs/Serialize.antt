@@ -8,10 +8,10 @@ use native.Mathlib.Nat.{add-assoc, add-zero}
 use lib.Dec.{leb}
 use lib.ListN.{length, take, drop, length-append, take-append-drop}
 use lib.Seq.{take-at, drop-at, length-take-le}
-use Rattle.format.specs.Read.{ReadResult, success, more-needed, error, Reader, _>>=_, return}
+use Rattle.format.specs.Read.{ReadResult, success, more-needed, error, Reader, _>>=_, _>>_, return, no-end, held}
 use Rattle.format.specs.Serialize.{Bytes, Part, read, number-from, number, read-uint, write-uint, read-uint8, read-uint16, write-uint16, read-uint32, write-uint32, read-short-length-seq, write-short-length-seq, entry-length, images, sum, same-bytes}
 use Rattle.format.proofs.Tests.{leb-is, nleb-is, is-leb, is-nleb}
-use Rattle.format.proofs.Exact.{Took, Exact, seq-exact, give-exact, revalue, revalue-bytes, more-is-no-success}
+use Rattle.format.proofs.Exact.{Took, Exact, seq-exact, free-exact, give-exact, revalue, revalue-bytes, more-is-no-success}
 
 -- n bytes
 pub read-fits : (n : ℕ) (l : List ℕ) (s : ℕ) → n ≤ length l → read n l s ≡ success (record { start = s; bytes = take n l }) (drop n l) (s + n)
@@ -31,7 +31,7 @@ as-is bytes = bytes
 abbrev pub part-at : ℕ → List ℕ → Part
 part-at s bytes = record { start = s; bytes = bytes }
 
-read-sound : (n : ℕ) (l : List ℕ) (s : ℕ) (p : Part) (l′ : List ℕ) (t : ℕ) → read n l s ≡ success p l′ t → Took (Sized n) as-is part-at l s p l′ t
+pub read-sound : (n : ℕ) (l : List ℕ) (s : ℕ) (p : Part) (l′ : List ℕ) (t : ℕ) → read n l s ≡ success p l′ t → Took (Sized n) as-is part-at l s p l′ t
 read-sound n l s p l′ t e = go (leb n (length l)) refl
   where
     go : (b : Bool) → leb n (length l) ≡ b → Took (Sized n) as-is part-at l s p l′ t
@@ -110,7 +110,7 @@ pub length-uint32 : (x : ℕ) → length (write-uint32 x) ≡ 4
 unfolding write-uint32
 length-uint32 x = refl
 
--- an entry
+-- an entry, held to no end
 pub length-entry : (bytes : List ℕ) → length (write-short-length-seq bytes) ≡ entry-length bytes
 unfolding write-short-length-seq
 length-entry bytes = rw (length-append (write-uint16 (length bytes)) bytes, length-uint16) refl
@@ -121,10 +121,10 @@ Short bytes = length bytes < 65536
 abbrev pub entry-at : ℕ → List ℕ → Part
 entry-at s bytes = part-at (s + 2) bytes
 
-pub entry-exact : Exact read-short-length-seq Short write-short-length-seq entry-at
+pub entry-exact : Exact (read-short-length-seq no-end) Short write-short-length-seq entry-at
 unfolding read-short-length-seq write-short-length-seq
 entry-exact =
     revalue Short write-short-length-seq entry-at
-    (seq-exact _ uint16-exact λ s n. read-exact n)
+    (free-exact 2 (seq-exact _ uint16-exact λ s n. free-exact n (read-exact n)))
     (λ w o. let e : length (w .1) ≡ w .0 = o .1 in (w .1, rw e (o .0), rw e refl, λ s. rw length-uint16 refl))
     (λ bytes o. ((length bytes, bytes), (o, refl), refl, λ s. rw length-uint16 refl))

@@ -6,17 +6,17 @@ use Prim.Native.Nat.{ℕ, suc, _+_, _*_, _≤_, _<_}
 use native.Mathlib.Omega.{arith}
 use lib.Dec.{leb, eqb}
 use lib.ListN.{length, take, drop, length-append}
-use Rattle.format.specs.Read.{ReadResult, success, more-needed, error, Reader, go-on, _>>=_, _>>_, return, test, framed, Answer, accepted, refused, answer, at, operation}
+use Rattle.format.specs.Read.{ReadResult, success, more-needed, error, Reader, go-on, _>>=_, _>>_, return, test, end-at, framed, Answer, accepted, refused, answer, at, operation}
 use Rattle.format.specs.Serialize.{Bytes, read-uint, read-uint16, write-uint16, same-bytes}
 use Rattle.format.specs.Shared.{by}
 use Rattle.format.specs.Fields.{PairAt, HeaderBody}
-use Rattle.format.specs.Context.{Mode, tolerant, strict, read-aad, read-aad-of, read-aad-section}
+use Rattle.format.specs.Context.{Mode, tolerant, strict, read-next-aad-pair, read-aad-by, read-aad, read-aad-of, read-aad-section}
 use Rattle.format.specs.Keys.{Max}
 use Rattle.format.specs.Body.{Which, tests-frames, Opening, read-opening, Request, request, after-context, after-opening, read-body, read-header-body, write-opening-of}
 use Rattle.format.specs.Lent.{bytes-at, table-after, pair-table-after, key-table-after, pair-numbers, key-numbers}
 use Rattle.format.specs.Demand3.{old-empty, reached-old, reaches-old, Sentence2}
 use Rattle.format.proofs.Tests.{is-eqb, eqb-is, neqb-is}
-use Rattle.format.proofs.Exact.{Took, framed-fits, framed-short}
+use Rattle.format.proofs.Exact.{Took, held-fits, framed-fits, framed-short}
 use Rattle.format.proofs.Serialize.{read-fits, read-short, length-uint16}
 use Rattle.format.proofs.Ends.{Top, TopOk, Rest, RestOk, top-bytes, top-at, v1-of, opening-exact}
 use Rattle.format.proofs.Messages.{accepted-took, rest-is, cases, operation-here, bytes-drop}
@@ -32,7 +32,7 @@ too-short l s h = rw (read-short 2 l s h) refl
 
 -- in a section whose length is not 2, nothing is strict
 aad-same : (n : ℕ) → eqb n 2 ≡ false → read-aad strict n ≡ read-aad tolerant n
-unfolding read-aad
+unfolding read-aad read-aad-by
 aad-same n e = rw (e, read-aad) refl
 
 of-same : (n : ℕ) → eqb n 2 ≡ false → (b : Bool) → read-aad-of strict b n ≡ read-aad-of tolerant b n
@@ -42,15 +42,18 @@ of-same n e false = rw (aad-same n e) refl
 
 -- a section of length 2: 8 unless the count is 0, and then 21 where it is strict
 framed-two : (mode : Mode) (c d : ℕ) (l : List ℕ) (s : ℕ) → framed 2 14 (read-aad mode 2) (c ∷ d ∷ l) s
-    ≡ (read-aad mode 2 >>= λ a l′ t. go-on (test 14 (eqb t (s + 2)) l′ t) (λ u. return a)) (c ∷ d ∷ l) s
-framed-two mode c d l s = framed-fits 2 14 (read-aad mode 2) (c ∷ d ∷ l) s (omega arith)
+    ≡ (read-aad-by (read-next-aad-pair (end-at (s + 2))) mode 2 >>= λ a l′ t. go-on (test 14 (eqb t (s + 2)) l′ t) (λ u. return a)) (c ∷ d ∷ l) s
+unfolding read-aad _>>=_
+framed-two mode c d l s =
+    framed-fits 2 14 (read-aad mode 2) (c ∷ d ∷ l) s (omega arith)
+    ∙ ap (λ x. go-on x (λ a l′ t. go-on (test 14 (eqb t (s + 2)) l′ t) (λ u. return a))) (held-fits (s + 2) 2 _ (c ∷ d ∷ l) s (omega arith))
 
 two-eight : (mode : Mode) (c d : ℕ) (l : List ℕ) (s : ℕ) → eqb (c * 256 + d) 0 ≡ false → framed 2 14 (read-aad mode 2) (c ∷ d ∷ l) s ≡ error 8
-unfolding read-aad _>>=_ _>>_ test
+unfolding read-aad-by _>>=_ _>>_ test
 two-eight mode c d l s e = rw (framed-two mode c d l s, two-bytes c d l s, e) refl
 
 two-strict : (c d : ℕ) (l : List ℕ) (s : ℕ) → eqb (c * 256 + d) 0 ≡ true → framed 2 14 (read-aad strict 2) (c ∷ d ∷ l) s ≡ error 21
-unfolding read-aad _>>=_ _>>_ test
+unfolding read-aad-by _>>=_ _>>_ test
 two-strict c d l s e = rw (framed-two strict c d l s, two-bytes c d l s, e) refl
 
 -- two bytes make a number below 256 just where the first is 0

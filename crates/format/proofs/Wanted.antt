@@ -6,11 +6,11 @@ use Prim.Native.Nat.{ℕ, zero, suc, _+_, _-_, _≤_, _<_}
 use native.Mathlib.Omega.{arith}
 use lib.Dec.{leb, eqb}
 use lib.ListN.{length, drop, length-drop}
-use Rattle.format.specs.Read.{ReadResult, success, more-needed, error, Reader, go-on, _>>=_, _>>_, return, test, repeat, framed, Answer, refused, answer, operation}
+use Rattle.format.specs.Read.{ReadResult, success, more-needed, error, Reader, go-on, _>>=_, _>>_, return, test, End, no-end, end-at, held, repeat, framed, Answer, refused, answer, operation}
 use Rattle.format.specs.Serialize.{Bytes, Part, same-bytes, read, read-uint, read-uint8, read-uint16, read-uint32, read-short-length-seq}
 use Rattle.format.specs.Shared.{id-length, iv-length, tag-length, commit-key-length, read-message-format-version, read-esdk-suite-id, read-content-type}
 use Rattle.format.specs.Fields.{PairAt}
-use Rattle.format.specs.Context.{Mode, tolerant, read-text, read-aad-pair, read-next-aad-pair, read-aad, read-aad-of, read-aad-section, read-aad-section-into, look-up, find-value}
+use Rattle.format.specs.Context.{Mode, tolerant, read-text, read-aad-pair, read-next-aad-pair, read-aad-by, read-aad, read-aad-of, read-aad-section, read-aad-section-into, look-up, find-value}
 use Rattle.format.specs.OnlyAuthenticated.{fitting, write-only-authenticated}
 use Rattle.format.specs.Keys.{Max, read-encrypted-data-key, read-encrypted-data-keys-section, read-encrypted-data-keys-section-into}
 use Rattle.format.specs.Body.{Which, read-opening-of, read-opening, read-closing-of, read-closing, Opening, Request, after-context, after-opening, read-body}
@@ -23,15 +23,15 @@ use Rattle.format.proofs.Messages.{bytes-drop, cases}
 
 -- of a reader that had the bytes up to the place n: where it succeeds, what it read is good and those behind its tail are left;
 -- and what it wants lies near n
-abbrev Near : {A : Type 0} → (A → Type 0) → ℕ → ReadResult A → Type 0
+abbrev pub Near : {A : Type 0} → (A → Type 0) → ℕ → ReadResult A → Type 0
 Near good n (success a l t) = good a × Bytes l × (t + length l ≡ n)
 Near good n (more-needed p) = p < n + 65536
 Near good n (error k) = Unit {0}
 
-record Wants {A : Type 0} (good : A → Type 0) (r : Reader A) : Type 0 where
-  near : (l : List ℕ) (s : ℕ) → Bytes l → Near good (s + length l) (r l s)
+pub record Wants {A : Type 0} (good : A → Type 0) (r : Reader A) : Type 0 where
+  pub near : (l : List ℕ) (s : ℕ) → Bytes l → Near good (s + length l) (r l s)
 
-abbrev Any : {A : Type 0} → A → Type 0
+abbrev pub Any : {A : Type 0} → A → Type 0
 Any a = Unit {0}
 
 module _ {A B : Type 0} where
@@ -57,6 +57,10 @@ unfolding test
 test-wants k true = record { near = λ l s hb. (tt, hb, refl) }
 test-wants k false = record { near = λ l s hb. tt }
 
+held-wants : (e : End) (n : ℕ) → Wants Any (held e n)
+unfolding held
+held-wants e n = record { near = λ l s. test-wants 32 _ .near l s }
+
 read-wants : (n : ℕ) → n < 65536 → Wants Any (read n)
 read-wants n few = record { near = λ l s hb. go l s hb (leb n (length l)) refl }
   where
@@ -81,11 +85,11 @@ module _ {A : Type 0} where
       go true l t hb = (tt, hb, refl)
       go false l t hb = tt
 
-  framed-wants : (n k : ℕ) {r : Reader A} → n < 65536 → Wants Any r → Wants Any (framed n k r)
-  framed-wants n k {r} few hr = record { near = λ l s hb. go l s hb (leb n (length l)) refl }
+  framed-wants : (n k : ℕ) (r : End → Reader A) → n < 65536 → ((e : End) → Wants Any (r e)) → Wants Any (framed n k r)
+  framed-wants n k r few hr = record { near = λ l s hb. go l s hb (leb n (length l)) refl }
     where
       go : (l : List ℕ) (s : ℕ) → Bytes l → (b : Bool) → leb n (length l) ≡ b → Near Any (s + length l) (framed n k r l s)
-      go l s hb true e = rw (framed-fits n k r l s (is-leb _ _ e)) (bind-wants hr (λ a g. end-wants s n k a) .near l s hb)
+      go l s hb true e = rw (framed-fits n k r l s (is-leb _ _ e)) (bind-wants (hr (end-at (s + n))) (λ a g. end-wants s n k a) .near l s hb)
       go l s hb false e = let h : length l < n = is-nleb _ _ e in rw (framed-short n k r l s h) (omega arith)
 
 -- the leaves; a length of two bytes is below 65,536
@@ -105,7 +109,7 @@ uint16-any : Wants Any read-uint16
 unfolding read-uint16
 uint16-any = uint-wants 2 (omega arith)
 
-uint16-wants : Wants (λ n. n < 65536) read-uint16
+pub uint16-wants : Wants (λ n. n < 65536) read-uint16
 uint16-wants = record { near = λ l s hb. go l s hb (read-uint16 l s) refl (uint16-any .near l s hb) }
   where
     go : (l : List ℕ) (s : ℕ) → Bytes l → (x : ReadResult ℕ) → read-uint16 l s ≡ x → Near Any (s + length l) x → Near (λ n. n < 65536) (s + length l) x
@@ -113,32 +117,32 @@ uint16-wants = record { near = λ l s hb. go l s hb (read-uint16 l s) refl (uint
     go l s hb (more-needed p) e h = h
     go l s hb (error k) e h = h
 
-entry-wants : Wants Any read-short-length-seq
+entry-wants : (e : End) → Wants Any (read-short-length-seq e)
 unfolding read-short-length-seq
-entry-wants = bind-wants uint16-wants read-wants
+entry-wants e = then-wants (held-wants e 2) (bind-wants uint16-wants (λ n g. then-wants (held-wants e n) (read-wants n g)))
 
-text-wants : (k : ℕ) → Wants Any (read-text k)
+text-wants : (e : End) (k : ℕ) → Wants Any (read-text e k)
 unfolding read-text
-text-wants k = bind-wants entry-wants (λ e g. then-wants (test-wants k _) (return-wants _))
+text-wants e k = bind-wants (entry-wants e) (λ p g. then-wants (test-wants k _) (return-wants _))
 
 -- the context section
-pair-wants : Wants Any read-aad-pair
+pair-wants : (e : End) → Wants Any (read-aad-pair e)
 unfolding read-aad-pair
-pair-wants = bind-wants (text-wants 10) (λ k g. bind-wants (text-wants 11) (λ v g. return-wants _))
+pair-wants e = bind-wants (text-wants e 10) (λ k g. bind-wants (text-wants e 11) (λ v g. return-wants _))
 
-next-wants : (acc : List PairAt) → Wants Any (read-next-aad-pair acc)
+next-wants : (e : End) (acc : List PairAt) → Wants Any (read-next-aad-pair e acc)
 unfolding read-next-aad-pair
-next-wants acc = bind-wants pair-wants (λ p g. then-wants (test-wants 12 _) (then-wants (test-wants 13 _) (return-wants _)))
+next-wants e acc = bind-wants (pair-wants e) (λ p g. then-wants (test-wants 12 _) (return-wants _))
 
-aad-wants : (mode : Mode) (n : ℕ) → Wants Any (read-aad mode n)
-unfolding read-aad
-aad-wants mode n =
-    bind-wants uint16-wants (λ count g. then-wants (test-wants 8 _) (then-wants (test-wants 21 _) (then-wants (test-wants 9 _) (repeat-wants count next-wants []))))
+aad-wants : (mode : Mode) (n : ℕ) (e : End) → Wants Any (read-aad mode n e)
+unfolding read-aad read-aad-by
+aad-wants mode n e =
+    then-wants (held-wants e 2) (bind-wants uint16-wants (λ count g. then-wants (test-wants 8 _) (then-wants (test-wants 21 _) (then-wants (test-wants 9 _) (repeat-wants count (next-wants e) [])))))
 
 of-wants : (mode : Mode) (b : Bool) (n : ℕ) → n < 65536 → Wants Any (read-aad-of mode b n)
 unfolding read-aad-of
 of-wants mode true n h = return-wants _
-of-wants mode false n h = framed-wants n 14 h (aad-wants mode n)
+of-wants mode false n h = framed-wants n 14 (read-aad mode n) h (aad-wants mode n)
 
 section-wants : (mode : Mode) → Wants Any (read-aad-section mode)
 unfolding read-aad-section
@@ -169,7 +173,7 @@ only-authenticated-wants text required room = bind-wants (section-wants tolerant
 -- the key section
 key-wants : Wants Any read-encrypted-data-key
 unfolding read-encrypted-data-key
-key-wants = bind-wants (text-wants 16) (λ p g. bind-wants entry-wants (λ i g. bind-wants entry-wants (λ c g. return-wants _)))
+key-wants = bind-wants (text-wants no-end 16) (λ p g. bind-wants (entry-wants no-end) (λ i g. bind-wants (entry-wants no-end) (λ c g. return-wants _)))
 
 keys-wants : (max : Max) → Wants Any (read-encrypted-data-keys-section max)
 unfolding read-encrypted-data-keys-section
@@ -194,7 +198,7 @@ version-wants : Wants Any read-message-format-version
 unfolding read-message-format-version
 version-wants = bind-wants uint8-wants (λ v g. then-wants (test-wants 3 _) (return-wants _))
 
-opening-wants : (which : Which) → Wants Any (read-opening which)
+pub opening-wants : (which : Which) → Wants Any (read-opening which)
 unfolding read-opening
 opening-wants which = bind-wants version-wants (λ v g. then-wants (test-wants 4 _) (rest-wants (eqb v 1)))
 

@@ -4,7 +4,7 @@ use mathlib.Core.List.{List, [], _∷_, _++_, map}
 use Prim.Native.Nat.{ℕ, _+_, _*_}
 use lib.Dec.{leb, ltb, eqb}
 use lib.ListN.{length}
-use Rattle.format.specs.Read.{ReadResult, success, error, Reader, _>>=_, _>>_, return, test, repeat, framed}
+use Rattle.format.specs.Read.{ReadResult, success, error, Reader, _>>=_, _>>_, return, test, End, held, repeat, framed}
 use Rattle.format.specs.Serialize.{Part, read-uint16, write-uint16, read-short-length-seq, write-short-length-seq, entry-length, images, sum, same-bytes}
 use Rattle.format.specs.Utf8.{valid-utf8-seq}
 use Rattle.format.specs.Fields.{Pair, PairAt, pair-of}
@@ -21,7 +21,7 @@ pair-length p = entry-length (p .key) + entry-length (p .value)
 abbrev pub linear-length : List Pair → ℕ
 linear-length = sum pair-length
 
--- refusal 13: what pairs take stays below this, so that the section's length, two bytes more, fits its two bytes
+-- refusal 13, on writing: what pairs take stays below this, so that the section's length, two bytes more, fits its two bytes
 abbrev pub pairs-limit : ℕ
 pairs-limit = 65534
 
@@ -66,35 +66,41 @@ is-strict tolerant = false
 is-strict strict = true
 
 -- an entry of UTF-8, else refusal k
-unfoldable pub read-text : ℕ → Reader Part
-read-text k = do
-  e ← read-short-length-seq
-  test k (valid-utf8-seq (e .bytes))
-  return e
-
--- ReadAADPair
-unfoldable pub read-aad-pair : Reader PairAt
-read-aad-pair = do
-  k ← read-text 10
-  v ← read-text 11
-  return (record { key = k; value = v })
-
--- a step of ReadAADPairs: the pair behind the pairs acc
-unfoldable pub read-next-aad-pair : List PairAt → Reader PairAt
-read-next-aad-pair acc = do
-  p ← read-aad-pair
-  test 12 (not (seen (p .key .bytes) (map pair-of acc)))
-  test 13 (ltb (linear-length (map pair-of acc) + pair-length (pair-of p)) pairs-limit)
+unfoldable pub read-text : End → ℕ → Reader Part
+read-text e k = do
+  p ← read-short-length-seq e
+  test k (valid-utf8-seq (p .bytes))
   return p
 
--- ReadAAD, of a section whose length n is not 0
-unfoldable pub read-aad : Mode → ℕ → Reader (List PairAt)
-read-aad mode n = do
+-- ReadAADPair
+unfoldable pub read-aad-pair : End → Reader PairAt
+read-aad-pair e = do
+  k ← read-text e 10
+  v ← read-text e 11
+  return (record { key = k; value = v })
+
+-- a step of ReadAADPairs: the pair behind the pairs acc. The source tests here what the pairs take (specs/Source): pairs that stay
+-- within a section's end never take that much.
+unfoldable pub read-next-aad-pair : End → List PairAt → Reader PairAt
+read-next-aad-pair e acc = do
+  p ← read-aad-pair e
+  test 12 (not (seen (p .key .bytes) (map pair-of acc)))
+  return p
+
+-- ReadAAD, of a section whose length n is not 0: the count, and the pairs, each read by `next`
+unfoldable pub read-aad-by : (List PairAt → Reader PairAt) → Mode → ℕ → Reader (List PairAt)
+read-aad-by next mode n = do
   count ← read-uint16
   test 8 (not (eqb n 2) || eqb count 0)
   test 21 (not (eqb n 2 && is-strict mode))
   test 9 (eqb n 2 || not (eqb count 0))
-  repeat count read-next-aad-pair []
+  repeat count next []
+
+-- and the count, too, has to stay within the section's end
+unfoldable pub read-aad : Mode → ℕ → End → Reader (List PairAt)
+read-aad mode n e = do
+  held e 2
+  read-aad-by (read-next-aad-pair e) mode n
 
 -- what follows the section's length n; true: n is 0
 unfoldable pub read-aad-of : Mode → Bool → ℕ → Reader (List PairAt)

@@ -1,4 +1,4 @@
--- Document 01's lists of refusals for reading, as lists: a line an item, in its order. A line says, in terms of the message alone,
+-- The lists of refusals for reading of documents 01 and 02, as lists: a line an item, in their order. A line says, in terms of the message alone,
 -- when it applies and with which position. `FirstRefusal` ties them to the readers, both ways; it is proved in proofs/FirstBody.
 -- A line behind one that applies may speak of bytes that are not there; nothing rests on it. Assumes nothing.
 use mathlib.Core.Path.{_≡_}
@@ -7,12 +7,12 @@ use mathlib.Core.List.{List, [], _∷_, _++_, map}
 use Prim.Native.Nat.{ℕ, zero, suc, _+_, _*_, _-_}
 use lib.Dec.{leb, ltb, eqb}
 use lib.ListN.{length}
-use Rattle.format.specs.Read.{Reader, accepted, refused, addressable, operation}
+use Rattle.format.specs.Read.{Reader, End, no-end, end-at, accepted, refused, addressable, operation}
 use Rattle.format.specs.Serialize.{every}
 use Rattle.format.specs.Utf8.{valid-utf8-seq}
 use Rattle.format.specs.Shared.{by, one-or-two, known, of-version, suite-version, frame-fits}
 use Rattle.format.specs.Fields.{PairAt, pair-of}
-use Rattle.format.specs.Context.{Mode, tolerant, is-strict, seen, pair-length, linear-length, read-aad-section-into, find-value}
+use Rattle.format.specs.Context.{Mode, tolerant, is-strict, seen, read-aad-section-into, find-value}
 use Rattle.format.specs.Keys.{Max, within, read-encrypted-data-keys-section-into}
 use Rattle.format.specs.Body.{Which, asked, Request, read-body}
 use Rattle.format.specs.Auth.{read-header-auth-tag}
@@ -51,9 +51,19 @@ pub record FirstApplies (lines : List Line) (number position : ℕ) : Type 0 whe
   pub its-number : line .number ≡ number
   pub its-position : line .position ≡ position
 
+-- 32, where the n bytes from s on would end past the end; no line where there is no end
+abbrev pub held-list : End → ℕ → ℕ → List Line
+held-list no-end n s = []
+held-list (end-at e) n s = when 32 (ltb e (s + n)) ∷ []
+
 -- THE LISTS. An entry: its length, its bytes
-unfoldable pub entry-list : List ℕ → ℕ → List Line
-entry-list m s = lacks 2 m s ∷ lacks (number16 m s) m (s + 2) ∷ []
+unfoldable pub entry-list : End → List ℕ → ℕ → List Line
+entry-list e m s =
+    held-list e 2 s
+    ++ (lacks 2 m s
+    ∷ (held-list e (number16 m s) (s + 2)
+    ++ (lacks (number16 m s) m (s + 2)
+    ∷ [])))
 
 -- n items, one behind the other, each in the light of those before it
 unfoldable pub each-list : {A : Type 0} → (List A → List ℕ → ℕ → List Line) → (List ℕ → ℕ → A) → (List ℕ → ℕ → ℕ) → ℕ → List A → List ℕ → ℕ → List Line
@@ -61,16 +71,14 @@ each-list list here end zero done m s = []
 each-list list here end (suc n) done m s = list done m s ++ each-list list here end n (done ++ (here m s ∷ [])) m (end m s)
 
 -- A pair, behind those pairs
-unfoldable pub pair-list : List PairAt → List ℕ → ℕ → List Line
-pair-list done m s =
+unfoldable pub pair-list : End → List PairAt → List ℕ → ℕ → List Line
+pair-list e done m s =
     let p = pair-here m s in
-    let before = map pair-of done in
-    (entry-list m s
+    (entry-list e m s
     ++ (unless 10 (valid-utf8-seq (p .key .bytes))
-    ∷ (entry-list m (entry-end m s)
+    ∷ (entry-list e m (entry-end m s)
     ++ (unless 11 (valid-utf8-seq (p .value .bytes))
-    ∷ when 12 (seen (p .key .bytes) before)
-    ∷ unless 13 (ltb (linear-length before + pair-length (pair-of p)) 65534)
+    ∷ when 12 (seen (p .key .bytes) (map pair-of done))
     ∷ []))))
 
 -- What follows a context section's length n; true: n is 0, and nothing follows
@@ -78,14 +86,16 @@ unfoldable pub context-list-of : Mode → Bool → ℕ → List ℕ → ℕ → 
 context-list-of mode true n m s = []
 context-list-of mode false n m s =
     let count = number16 m s in
+    let end = end-at (s + n) in
     (lacks n m s
-    ∷ lacks 2 m s
+    ∷ (held-list end 2 s
+    ++ (lacks 2 m s
     ∷ when 8 (eqb n 2 && not (eqb count 0))
     ∷ when 21 (eqb n 2 && (eqb count 0 && is-strict mode))
     ∷ when 9 (not (eqb n 2) && eqb count 0)
-    ∷ (each-list pair-list pair-here pair-end count [] m (s + 2)
+    ∷ (each-list (pair-list end) pair-here pair-end count [] m (s + 2)
     ++ (unless 14 (eqb (pairs-end m count (s + 2)) (s + n))
-    ∷ [])))
+    ∷ [])))))
 
 unfoldable pub context-list : Mode → List ℕ → ℕ → List Line
 context-list mode m s = lacks 2 m s ∷ context-list-of mode (eqb (number16 m s) 0) (number16 m s) m (s + 2)
@@ -93,10 +103,10 @@ context-list mode m s = lacks 2 m s ∷ context-list-of mode (eqb (number16 m s)
 -- A key, whatever keys stand before it
 unfoldable pub key-list : List ℕ → ℕ → List Line
 key-list m s =
-    entry-list m s
+    entry-list no-end m s
     ++ (unless 16 (valid-utf8-seq (entry-here m s .bytes))
-    ∷ (entry-list m (entry-end m s)
-    ++ entry-list m (entry-end m (entry-end m s))))
+    ∷ (entry-list no-end m (entry-end m s)
+    ++ entry-list no-end m (entry-end m (entry-end m s))))
 
 unfoldable pub keys-list : Max → List ℕ → ℕ → List Line
 keys-list max m s =

@@ -4,7 +4,7 @@ use mathlib.Core.List.{List, [], _∷_, _++_}
 use Prim.Native.Nat.{ℕ, _*_}
 use lib.Dec.{leb}
 use lib.ListN.{length}
-use Rattle.format.specs.Read.{Reader, _>>=_, _>>_, return, test, repeat}
+use Rattle.format.specs.Read.{Reader, _>>=_, _>>_, return, test, no-end, repeat}
 use Rattle.format.specs.Serialize.{read-uint16, write-uint16, read-short-length-seq, write-short-length-seq, images}
 use Rattle.format.specs.Fields.{EncryptedDataKey, EncryptedDataKeyAt}
 use Rattle.format.specs.Context.{read-text}
@@ -30,12 +30,12 @@ write-encrypted-data-keys ks = images write-encrypted-data-key ks
 unfoldable pub write-encrypted-data-keys-section : List EncryptedDataKey → List ℕ
 write-encrypted-data-keys-section ks = write-uint16 (length ks) ++ write-encrypted-data-keys ks
 
--- ReadEncryptedDataKey
+-- ReadEncryptedDataKey: a key section stores no length, so its entries are held to no end
 unfoldable pub read-encrypted-data-key : Reader EncryptedDataKeyAt
 read-encrypted-data-key = do
-  provider ← read-text 16
-  info ← read-short-length-seq
-  cipher ← read-short-length-seq
+  provider ← read-text no-end 16
+  info ← read-short-length-seq no-end
+  cipher ← read-short-length-seq no-end
   return (record { keyProviderId = provider; keyProviderInfo = info; ciphertext = cipher })
 
 -- ReadEncryptedDataKeysSection: the maximum is tested before any key is read

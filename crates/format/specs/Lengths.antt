@@ -5,11 +5,12 @@ use mathlib.Core.Option.{none, some}
 use mathlib.Core.List.{List, [], _∷_, _++_, map}
 use Prim.Native.Nat.{ℕ, _+_, _≤_, _<_}
 use lib.ListN.{length}
-use Rattle.format.specs.Read.{success, error, accepted, operation}
+use Rattle.format.specs.Read.{success, error, no-end, accepted, operation}
 use Rattle.format.specs.Serialize.{Bytes, images}
 use Rattle.format.specs.Shared.{by, suite-version}
 use Rattle.format.specs.Fields.{Pair, PairAt, pair-of, pair-parts, Fields, HeaderBody}
-use Rattle.format.specs.Context.{linear-length, Mode, read-aad-pair, read-next-aad-pair, read-aad-section-into}
+use Rattle.format.specs.Context.{linear-length, Mode, read-aad-pair, read-aad-section-into}
+use Rattle.format.specs.Source.{source-read-next-aad-pair}
 use Rattle.format.specs.Keys.{Max}
 use Rattle.format.specs.Body.{Which, Opening, read-opening, read-header-body}
 use Rattle.format.specs.Auth.{HeaderAuth, read-header-auth-tag}
@@ -26,7 +27,7 @@ pub record TakesTooMuch (acc : List PairAt) (l : List ℕ) (s : ℕ) : Type 0 wh
   pub pair : PairAt
   pub left : List ℕ
   pub tail : ℕ
-  pub is-read : read-aad-pair l s ≡ success pair left tail
+  pub is-read : read-aad-pair no-end l s ≡ success pair left tail
   pub new : Has (pair .key .bytes) acc → ⊥
   pub too-much : 65534 ≤ linear-length (map pair-of (acc ++ (pair ∷ [])))
 
@@ -42,10 +43,10 @@ pub data OpeningSized (s : ℕ) : (version id tail : ℕ) → Type 0 where
 
 -- The lengths that stand on both sides, as numbers: what is read has them, and what is written.
 pub record Lengths : Type 0 where
-  -- 65,534, and what refuses by it
+  -- 65,534, and what refuses by it: the source's reading, and the writer
   pub pairs-read : (mode : Mode) (room : ℕ) (m : List ℕ) (s : ℕ) → Bytes m → (ps : List PairAt) (t : ℕ) → operation (read-aad-section-into mode room) m s ≡ accepted ps t
       → linear-length (map pair-of ps) < 65534
-  pub pairs-refused : (acc : List PairAt) (l : List ℕ) (s : ℕ) → JustWhere (read-next-aad-pair acc l s ≡ error 13) (TakesTooMuch acc l s)
+  pub pairs-refused : (acc : List PairAt) (l : List ℕ) (s : ℕ) → JustWhere (source-read-next-aad-pair acc l s ≡ error 13) (TakesTooMuch acc l s)
   pub pairs-written : (ps : List Pair) → first (pairs-checks ps) ≡ none → linear-length ps < 65534
   pub pairs-not-written : (ps : List Pair) → first (count-checks (length ps) (images pair-parts ps) ++ each pair-checks [] ps) ≡ none
       → JustWhere (first (pairs-checks ps) ≡ some 13) (65534 ≤ linear-length ps)

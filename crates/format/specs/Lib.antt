@@ -11,6 +11,7 @@ pub mod Checks
 pub mod Lent
 pub mod Sorted
 pub mod OnlyAuthenticated
+pub mod Source
 pub mod Places
 pub mod First
 pub mod Refusals
@@ -19,4 +20,5 @@ pub mod Sections
 pub mod Characters
 pub mod Lengths
 pub mod Pinned
+pub mod SourceEquality
 pub mod Selection

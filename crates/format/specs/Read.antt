@@ -1,9 +1,9 @@
 -- How bytes are read: a reader takes the bytes that are left and the place of the first of them in the message.
 -- Assumes nothing.
-use mathlib.Core.Bool.{Bool, true, false, _&&_}
+use mathlib.Core.Bool.{Bool, true, false, _&&_, not}
 use mathlib.Core.List.{List, [], _∷_, _++_}
 use Prim.Native.Nat.{ℕ, zero, suc, _+_}
-use lib.Dec.{leb, eqb}
+use lib.Dec.{leb, ltb, eqb}
 use lib.ListN.{length, drop}
 
 -- The source's ReadResult. success: what was read, the bytes left and the place of the first of them, which is the tail.
@@ -41,17 +41,31 @@ unfoldable pub test : ℕ → Bool → Reader (Unit {0})
 test k true l s = success tt l s
 test k false l s = error k
 
+-- the end that what is read has to stay within: none, or that of the section it stands in
+pub data End : Type 0 where
+  no-end : End
+  end-at : ℕ → End
+
+-- whether a place lies past it
+abbrev pub past : End → ℕ → Bool
+past no-end t = false
+past (end-at e) t = ltb e t
+
+-- refusal 32: the next n bytes would end past the end. It comes before any shortage of theirs.
+unfoldable pub held : End → ℕ → Reader (Unit {0})
+held e n l s = test 32 (not (past e (s + n))) l s
+
 module _ {A : Type 0} where
   -- count items, each read in the light of those before it
   unfoldable pub repeat : ℕ → (List A → Reader A) → List A → Reader (List A)
   repeat zero step acc = return acc
   repeat (suc n) step acc = step acc >>= λ a. repeat n step (acc ++ (a ∷ []))
 
-  -- n bytes have to be there, and r has to end where they do: else refusal k. r itself is not stopped at their end.
-  unfoldable pub framed : ℕ → ℕ → Reader A → Reader A
+  -- n bytes have to be there, and r, which is told where they end, has to end there: else refusal k
+  unfoldable pub framed : ℕ → ℕ → (End → Reader A) → Reader A
   framed n k r l s =
       elim (leb n (length l))
-      [ true ↦ (r >>= λ a l′ t. go-on (test k (eqb t (s + n)) l′ t) (λ u. return a)) l s | false ↦ more-needed (s + n) ]
+      [ true ↦ (r (end-at (s + n)) >>= λ a l′ t. go-on (test k (eqb t (s + n)) l′ t) (λ u. return a)) l s | false ↦ more-needed (s + n) ]
 
 -- what an operation answers: what was read and the tail, or a refusal's number and position
 pub data Answer (A : Type 0) : Type 0 where

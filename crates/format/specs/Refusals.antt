@@ -1,5 +1,5 @@
--- The refusals that each reading operation can answer: 1; 2, which each part in turn may answer; then the others in the order in
--- which they are tested. Assumes nothing.
+-- The refusals that each reading operation can answer: 1; 2 and 32, which each part in turn may answer, 32 in a context section only;
+-- then the others in the order in which they are tested. 13 is in none of the lists. Assumes nothing.
 use mathlib.Core.Path.{_≡_}
 use mathlib.Core.Bool.{Bool, true, false}
 use mathlib.Core.List.{List, [], _∷_, _++_, List·Memᴰ}
@@ -15,8 +15,8 @@ use Rattle.format.specs.OnlyAuthenticated.{write-only-authenticated}
 
 -- only the strict mode answers 21
 unfoldable pub section-refusals : Mode → List ℕ
-section-refusals tolerant = 8 ∷ 9 ∷ 10 ∷ 11 ∷ 12 ∷ 13 ∷ 14 ∷ []
-section-refusals strict = 8 ∷ 21 ∷ 9 ∷ 10 ∷ 11 ∷ 12 ∷ 13 ∷ 14 ∷ []
+section-refusals tolerant = 32 ∷ 8 ∷ 9 ∷ 10 ∷ 11 ∷ 12 ∷ 14 ∷ []
+section-refusals strict = 32 ∷ 8 ∷ 21 ∷ 9 ∷ 10 ∷ 11 ∷ 12 ∷ 14 ∷ []
 
 unfoldable pub context-refusals : Mode → List ℕ
 context-refusals mode = 1 ∷ 2 ∷ (section-refusals mode ++ (22 ∷ []))

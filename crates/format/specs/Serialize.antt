@@ -4,7 +4,7 @@ use mathlib.Core.List.{List, [], _∷_, _++_}
 use Prim.Native.Nat.{ℕ, zero, suc, _+_, _*_, _/_, _%_, _<_}
 use lib.Dec.{leb, eqb}
 use lib.ListN.{length, take, drop}
-use Rattle.format.specs.Read.{success, more-needed, Reader, _>>=_, _>>_, return, Answer, accepted, refused, addressable}
+use Rattle.format.specs.Read.{success, more-needed, Reader, _>>=_, _>>_, return, End, held, Answer, accepted, refused, addressable}
 
 -- the elements of a message are bytes
 abbrev pub Bytes : List ℕ → Type 0
@@ -64,10 +64,13 @@ read-uint32 = read-uint 4
 unfoldable pub write-uint32 : ℕ → List ℕ
 write-uint32 x = write-uint 4 x
 
--- ReadShortLengthSeq, WriteShortLengthSeq: an entry, which is a 2-byte length and that many bytes
-unfoldable pub read-short-length-seq : Reader Part
-read-short-length-seq = do
+-- ReadShortLengthSeq, WriteShortLengthSeq: an entry, which is a 2-byte length and that many bytes. Reading, both have to stay within
+-- the end; the source knows no end.
+unfoldable pub read-short-length-seq : End → Reader Part
+read-short-length-seq e = do
+  held e 2
   n ← read-uint16
+  held e n
   read n
 
 unfoldable pub write-short-length-seq : List ℕ → List ℕ

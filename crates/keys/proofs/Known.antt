@@ -3,7 +3,7 @@ use mathlib.Core.Path.{_≡_, ap, _∙_}
 use mathlib.Core.List.{List}
 use Prim.Native.Nat.{ℕ, _+_}
 use native.Mathlib.Omega.{arith}
-use Rattle.format.specs.Read.{accepted, at}
+use Rattle.format.specs.Read.{no-end, accepted, at}
 use Rattle.format.specs.Serialize.{Part}
 use Rattle.format.specs.Fields.{EncryptedDataKeyAt}
 use Rattle.format.specs.Keys.{Max, read-encrypted-data-key, read-encrypted-data-keys-section}
@@ -31,12 +31,12 @@ three p q i j c d e f g = rw (e, f, g)
 key-known : (m : List ℕ) (s : ℕ) (a : EncryptedDataKeyAt) (t : ℕ) → at read-encrypted-data-key m s ≡ accepted a t → Known key-here key-end m s a t
 unfolding read-encrypted-data-key
 key-known m s a t e =
-    let x = un-bind _ (text-tidy 16) m s a t e in
-    let p = text-known 16 m s (x .0) (x .1) (x .2) in
-    let y = un-bind _ entry-tidy m (x .1) a t (x .3) in
-    let i = entry-known m (x .1) (y .0) (y .1) (y .2) in
-    let z = un-bind _ entry-tidy m (y .1) a t (y .3) in
-    let c = entry-known m (y .1) (z .0) (z .1) (z .2) in
+    let x = un-bind _ (text-tidy no-end 16) m s a t e in
+    let p = text-known no-end 16 m s (x .0) (x .1) (x .2) .0 in
+    let y = un-bind _ (entry-tidy no-end) m (x .1) a t (x .3) in
+    let i = entry-known no-end m (x .1) (y .0) (y .1) (y .2) .0 in
+    let z = un-bind _ (entry-tidy no-end) m (y .1) a t (y .3) in
+    let c = entry-known no-end m (y .1) (z .0) (z .1) (z .2) .0 in
     let u = un-return _ m (z .1) a t (z .3) in
     let second : y .1 ≡ entry-end m (entry-end m s) = i .tail ∙ ap (entry-end m) (p .tail) in
     record {

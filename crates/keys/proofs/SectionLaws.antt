@@ -6,7 +6,7 @@ use Prim.Native.Nat.{ℕ, _+_, _≤_, _<_}
 use native.Mathlib.Omega.{arith}
 use lib.Dec.{leb}
 use lib.ListN.{length}
-use Rattle.format.specs.Read.{accepted, at, repeat}
+use Rattle.format.specs.Read.{no-end, accepted, at, repeat}
 use Rattle.format.specs.Serialize.{read-uint16, read-short-length-seq}
 use Rattle.format.specs.Context.{read-text}
 use Rattle.format.specs.Keys.{within, read-encrypted-data-key, read-encrypted-data-keys-section}
@@ -43,23 +43,23 @@ module _ (max : Max) (count : ℕ) where
   within-most n e = sym (rw e)
 
 -- a key
-module _ (m : List ℕ) (s : ℕ) (p : Span) (pIs : p ≡ span-of (at (read-text 16) m s)) where
+module _ (m : List ℕ) (s : ℕ) (p : Span) (pIs : p ≡ span-of (at (read-text no-end 16) m s)) where
   pub key-no-provider : (q : Refusal) → p ≡ span.Not q → (a : Refusal) → a ≡ why-span p → next.Not a ≡ next-of (at read-encrypted-data-key m s)
   unfolding read-encrypted-data-key
-  key-no-provider q b a f = rw (f, b, stop _ (text-tidy 16) m s _ _ (span-no (at (read-text 16) m s) p pIs q b))
+  key-no-provider q b a f = rw (f, b, stop _ (text-tidy no-end 16) m s _ _ (span-no (at (read-text no-end 16) m s) p pIs q b))
 
-  module _ (p₁ p₂ second : ℕ) (pb : p ≡ span.At p₁ p₂ second) (i : Span) (iIs : i ≡ span-of (at read-short-length-seq m second)) where
-    ps : Stood (at (read-text 16) m s) m (s + 2) (number16 m s) p₁ p₂ second
-    ps = text-stood m s p p₁ p₂ second pb 16 pIs
+  module _ (p₁ p₂ second : ℕ) (pb : p ≡ span.At p₁ p₂ second) (i : Span) (iIs : i ≡ span-of (at (read-short-length-seq no-end) m second)) where
+    ps : Stood (at (read-text no-end 16) m s) m (s + 2) (number16 m s) p₁ p₂ second
+    ps = text-stood m s p p₁ p₂ second pb no-end 16 pIs
 
     pub key-no-info : (q : Refusal) → i ≡ span.Not q → (a : Refusal) → a ≡ why-span i → next.Not a ≡ next-of (at read-encrypted-data-key m s)
     unfolding read-encrypted-data-key
     key-no-info q b a f =
-        rw (f, b, go _ (text-tidy 16) m s _ second (ps .is), stop _ entry-tidy m second _ _ (span-no (at read-short-length-seq m second) i iIs q b))
+        rw (f, b, go _ (text-tidy no-end 16) m s _ second (ps .is), stop _ (entry-tidy no-end) m second _ _ (span-no (at (read-short-length-seq no-end) m second) i iIs q b))
 
-    module _ (i₁ i₂ third : ℕ) (ib : i ≡ span.At i₁ i₂ third) (c : Span) (cIs : c ≡ span-of (at read-short-length-seq m third)) where
-      is : Stood (at read-short-length-seq m second) m (second + 2) (number16 m second) i₁ i₂ third
-      is = entry-stood m second i i₁ i₂ third ib iIs
+    module _ (i₁ i₂ third : ℕ) (ib : i ≡ span.At i₁ i₂ third) (c : Span) (cIs : c ≡ span-of (at (read-short-length-seq no-end) m third)) where
+      is : Stood (at (read-short-length-seq no-end) m second) m (second + 2) (number16 m second) i₁ i₂ third
+      is = entry-stood m second i i₁ i₂ third ib no-end iIs
 
       pub key-no-cipher : (q : Refusal) → c ≡ span.Not q → (a : Refusal) → a ≡ why-span c → next.Not a ≡ next-of (at read-encrypted-data-key m s)
       unfolding read-encrypted-data-key
@@ -67,16 +67,16 @@ module _ (m : List ℕ) (s : ℕ) (p : Span) (pIs : p ≡ span-of (at (read-text
           rw (
             f,
             b,
-            go _ (text-tidy 16) m s _ second (ps .is),
-            go _ entry-tidy m second _ third (is .is),
-            stop _ entry-tidy m third _ _ (span-no (at read-short-length-seq m third) c cIs q b),
+            go _ (text-tidy no-end 16) m s _ second (ps .is),
+            go _ (entry-tidy no-end) m second _ third (is .is),
+            stop _ (entry-tidy no-end) m third _ _ (span-no (at (read-short-length-seq no-end) m third) c cIs q b),
           )
 
       pub key-whole : (c₁ c₂ t : ℕ) → c ≡ span.At c₁ c₂ t → next.At t ≡ next-of (at read-encrypted-data-key m s)
       unfolding read-encrypted-data-key
       key-whole c₁ c₂ t cb =
-          let cs = entry-stood m third c c₁ c₂ t cb cIs in
-          rw (go _ (text-tidy 16) m s _ second (ps .is), go _ entry-tidy m second _ third (is .is), go _ entry-tidy m third _ t (cs .is), gives _ m t)
+          let cs = entry-stood m third c c₁ c₂ t cb no-end cIs in
+          rw (go _ (text-tidy no-end 16) m s _ second (ps .is), go _ (entry-tidy no-end) m second _ third (is .is), go _ (entry-tidy no-end) m third _ t (cs .is), gives _ m t)
 
 -- a section at a place
 module _ (max : Max) (m : List ℕ) (s : ℕ) (x : Number) (xIs : x ≡ number-of (at read-uint16 m s)) where

@@ -4,6 +4,7 @@ use super::accepted;
 use super::refused;
 use entries::Next;
 use request::Max;
+use wire::End;
 use wire::Number;
 use wire::Span;
 use wire::reading;
@@ -28,12 +29,12 @@ fn within(max: Max, count: u64) -> bool
     }
 }
 
-// ReadEncryptedDataKey: provider ID, provider info, ciphertext.
+// ReadEncryptedDataKey: provider ID, provider info, ciphertext. A key section stores no length that could end them.
 fn read_key(m: &[u8], s: u64) -> Next
     requires { ⌜ (s < 4294967296) × (length (now m) < 4294967296) ⌝ }
     ensures { λ r. ⌜ r ≡ next-of (at read-encrypted-data-key (now (m .entry)) s) ⌝ }
 {
-    let p = reading::read_text(m, s, refusals::PROVIDER_ID_NOT_UTF8);
+    let p = reading::read_text(m, s, End::None, refusals::PROVIDER_ID_NOT_UTF8);
     let Span::At {
         start: _,
         len: _,
@@ -42,7 +43,7 @@ fn read_key(m: &[u8], s: u64) -> Next
     else {
         return Next::Not(p.refusal());
     };
-    let i = reading::read_entry(m, second);
+    let i = reading::read_entry(m, second, End::None);
     let Span::At {
         start: _,
         len: _,
@@ -51,7 +52,7 @@ fn read_key(m: &[u8], s: u64) -> Next
     else {
         return Next::Not(i.refusal());
     };
-    let c = reading::read_entry(m, third);
+    let c = reading::read_entry(m, third, End::None);
     let Span::At {
         start: _,
         len: _,

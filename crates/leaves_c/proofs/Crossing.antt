@@ -5,25 +5,27 @@ use mathlib.Core.Bool.{Bool, true, false, cond, _&&_, false≢true}
 use mathlib.Core.List.{List}
 use native.Mathlib.Omega.{arith}
 use lib.Dec.{leb}
-use borrow.Author.Tests.{le-leb, lt-leb, leb-true, leb-false}
-use Rattle.format.specs.Read.{Answer}
-use Rattle.format.specs.Serialize.{Part}
+use borrow.Author.Tests.{eq-eqb, ne-eqb, le-leb, lt-leb, leb-true, leb-false}
+use Rattle.format.specs.Read.{Answer, operation}
+use Rattle.format.specs.Serialize.{Part, read-short-length-seq}
 use Rattle.format.specs.Shared.{suite-version}
 use Rattle.suites.specs.Table.{suite-of}
 use Rattle.suites.specs.declared.Suite.{Suite}
 use Rattle.suites.specs.declared.SuiteAnswer.{SuiteAnswer}
 use Rattle.suites.specs.declared.SuiteAnswer.the-variants.{Known, Unknown}
 use Rattle.suites.proofs.Answers.{no-version, its-version}
-use Rattle.wire.specs.Codes.{number-of, span-of}
+use Rattle.wire.specs.Codes.{number-of, span-of, end-of}
 use Rattle.wire.specs.declared.Refusal.{Refusal}
 use Rattle.wire.specs.declared.Number.{Number}
 use Rattle.wire.specs.declared.Number.the-variants as number
 use Rattle.wire.specs.declared.Span.{Span}
 use Rattle.wire.specs.declared.Span.the-variants as span
+use Rattle.wire.specs.declared.End.{End}
+use Rattle.wire.specs.declared.End.the-variants as end
 use Rattle.comparing.specs.declared.Order.{Order}
 use Rattle.leaves_c.specs.declared.LeafNumber.{LeafNumber}
 use Rattle.leaves_c.specs.declared.LeafPart.{LeafPart}
-use Rattle.leaves_c.specs.Exports.{number-fields, part-fields, number-record, part-record, truth, order-number, can-put}
+use Rattle.leaves_c.specs.Exports.{end-asked, number-fields, part-fields, number-record, part-record, truth, order-number, can-put}
 
 -- a suite
 module _ (n : ℕ) (x : SuiteAnswer) (is : x ≡ suite-of n) where
@@ -51,6 +53,17 @@ number-crosses o x r e f = e ∙ ap number-fields f
 
 pub part-crosses : (o : Answer Part) (x : Span) (r : LeafPart) → r ≡ part-fields x → x ≡ span-of o → r ≡ part-record o
 part-crosses o x r e f = e ∙ ap part-fields f
+
+-- the end that is asked for
+pub end-none : (n p : ℕ) → n ≡ 0 → end.None ≡ end-asked n p
+end-none n p h = sym (rw (eq-eqb n 0 h))
+
+pub end-placed : (n p : ℕ) → (n ≡ 0 → ⊥) → end.At p ≡ end-asked n p
+end-placed n p h = sym (rw (ne-eqb n 0 h))
+
+pub entry-crosses : (m : List ℕ) (s n p : ℕ) (e : End) → e ≡ end-asked n p → (x : Span) → x ≡ span-of (operation (read-short-length-seq (end-of e)) m s) → (r : LeafPart) → r ≡ part-fields x
+    → r ≡ part-record (operation (read-short-length-seq (end-of (end-asked n p))) m s)
+entry-crosses m s n p e is x f r g = g ∙ ap part-fields f ∙ ap (λ (w : End). part-record (operation (read-short-length-seq (end-of w)) m s)) is
 
 -- a part within so many bytes
 pub starts-beyond : (s n total : ℕ) → total < s → false ≡ leb (s + n) total

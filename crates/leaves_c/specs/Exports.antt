@@ -2,7 +2,7 @@
 use Prim.Native.Nat.{ℕ, _+_}
 use mathlib.Core.Bool.{Bool, true, false, cond, _&&_}
 use mathlib.Core.List.{List}
-use lib.Dec.{leb}
+use lib.Dec.{leb, eqb}
 use lib.ListN.{length}
 use Rattle.format.specs.Read.{Answer}
 use Rattle.format.specs.Serialize.{Part, same-bytes, write-short-length-seq}
@@ -15,10 +15,16 @@ use Rattle.wire.specs.declared.Number.{Number}
 use Rattle.wire.specs.declared.Number.the-variants as number
 use Rattle.wire.specs.declared.Span.{Span}
 use Rattle.wire.specs.declared.Span.the-variants as span
+use Rattle.wire.specs.declared.End.{End}
+use Rattle.wire.specs.declared.End.the-variants as end
 use Rattle.comparing.specs.declared.Order.{Order}
 use Rattle.comparing.specs.declared.Order.the-variants.{Less, Equal, Greater}
 use Rattle.leaves_c.specs.declared.LeafNumber.{LeafNumber}
 use Rattle.leaves_c.specs.declared.LeafPart.{LeafPart}
+
+-- the end that a host asks for: a number that is 0 where there is none, and its place
+abbrev pub end-asked : ℕ → ℕ → End
+end-asked hasEnd place = cond (eqb hasEnd 0) end.None (end.At place)
 
 abbrev pub number-fields : Number → LeafNumber
 number-fields (number.Is v t) = record { refusal = 0; position = 0; value = v; tail = t }

@@ -2,6 +2,7 @@
 use comparing::Order;
 use suites::Suite;
 use suites::SuiteAnswer;
+use wire::End;
 use wire::Number;
 use wire::Span;
 ghost use mathlib.Core.Path.{_≡_};
@@ -10,7 +11,8 @@ ghost use lib.Dec.{leb};
 ghost use Rattle.format.specs.Read.{operation};
 ghost use Rattle.format.specs.Serialize.{read-operation, read-uint8, read-uint16, read-uint32, read-short-length-seq};
 ghost use Rattle.format.specs.Shared.{suite-version};
-ghost use Rattle.leaves_c.specs.Exports.{number-record, part-record, number-fields, part-fields, truth, order-number, utf8-number, same-number, compare-number, can-put, put-number, put-output};
+ghost use Rattle.wire.specs.Codes.{end-of};
+ghost use Rattle.leaves_c.specs.Exports.{end-asked, number-record, part-record, number-fields, part-fields, truth, order-number, utf8-number, same-number, compare-number, can-put, put-number, put-output};
 
 // A number that was read: refusal 0 where it was accepted.
 #[repr(C)]
@@ -111,11 +113,21 @@ pub extern "C" fn leaf_read_bytes(m: &[u8], start: u64, n: u32) -> LeafPart
     part_record(wire::operations::read_bytes(m, start, n))
 }
 
-#[no_mangle]
-pub extern "C" fn leaf_read_entry(m: &[u8], start: u64) -> LeafPart
-    ensures { λ r. ⌜ r ≡ part-record (operation read-short-length-seq (now (m .entry)) start) ⌝ }
+// 0: no end; any other: the place `end`.
+fn end_asked(hasEnd: u32, end: u64) -> End
+    ensures { λ r. ⌜ r ≡ end-asked hasEnd end ⌝ }
 {
-    part_record(wire::operations::read_entry(m, start))
+    if hasEnd == 0 {
+        return End::None;
+    }
+    End::At(end)
+}
+
+#[no_mangle]
+pub extern "C" fn leaf_read_entry(m: &[u8], start: u64, hasEnd: u32, end: u64) -> LeafPart
+    ensures { λ r. ⌜ r ≡ part-record (operation (read-short-length-seq (end-of (end-asked hasEnd end))) (now (m .entry)) start) ⌝ }
+{
+    part_record(wire::operations::read_entry(m, start, end_asked(hasEnd, end)))
 }
 
 // Whether a part lies within so many bytes.

@@ -5,7 +5,7 @@ use mathlib.Core.List.{List, [], _∷_, _++_}
 use Prim.Native.Nat.{ℕ, suc, _+_, _-_, _≤_}
 use native.Mathlib.Omega.{arith}
 use lib.ListN.{length, drop, length-drop}
-use Rattle.format.specs.Read.{ReadResult, success, more-needed, error, Reader, go-on, _>>=_, _>>_, return, test, repeat, Answer, accepted, refused, answer, at}
+use Rattle.format.specs.Read.{ReadResult, success, more-needed, error, Reader, go-on, _>>=_, _>>_, return, test, End, past, held, repeat, Answer, accepted, refused, answer, at}
 use Rattle.steps.proofs.Tidy.{Tidy, left-is}
 
 module _ {A : Type 0} where
@@ -66,6 +66,23 @@ module _ {A : Type 0} where
   unfolding at test _>>_
   un-test k true q m s a t e = (refl, e)
   un-test k false q m s a t e = refused-is-none e
+
+  -- the test of an end
+  module _ (e : End) (n : ℕ) (q : Reader A) (m : List ℕ) (s : ℕ) where
+    pub held-pass : past e (s + n) ≡ false → at (held e n >> q) m s ≡ at q m s
+    unfolding at held test _>>_
+    held-pass h = rw h
+
+    pub held-fail : past e (s + n) ≡ true → at (held e n >> q) m s ≡ refused 32 0
+    unfolding at held test _>>_
+    held-fail h = rw h
+
+    pub un-held : (a : A) (t : ℕ) → at (held e n >> q) m s ≡ accepted a t → (past e (s + n) ≡ false) × (at q m s ≡ accepted a t)
+    un-held a t h = by (past e (s + n)) refl
+      where
+        by : (b : Bool) → past e (s + n) ≡ b → (past e (s + n) ≡ false) × (at q m s ≡ accepted a t)
+        by true k = refused-is-none (sym (held-fail k) ∙ h)
+        by false k = (k, sym (held-pass k) ∙ h)
 
   -- a tail lies within the message
   pub inside : {r : Reader A} → Tidy r → (m : List ℕ) (s : ℕ) → s ≤ length m → (a : A) (t : ℕ) → at r m s ≡ accepted a t → t ≤ length m

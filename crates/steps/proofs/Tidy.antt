@@ -8,7 +8,7 @@ use native.Mathlib.Nat.{add-zero, add-assoc}
 use lib.Dec.{leb, eqb}
 use lib.ListN.{length, take, drop, length-drop}
 use lib.Seq.{drop-drop}
-use Rattle.format.specs.Read.{ReadResult, success, more-needed, error, Reader, go-on, _>>=_, _>>_, return, test, repeat, framed}
+use Rattle.format.specs.Read.{ReadResult, success, more-needed, error, Reader, go-on, _>>=_, _>>_, return, test, End, end-at, held, repeat, framed}
 use Rattle.format.specs.Serialize.{Part, read, read-uint, read-uint8, read-uint16, read-uint32, read-short-length-seq}
 use Rattle.format.specs.Context.{read-text}
 use Rattle.format.proofs.Tests.{is-leb, is-nleb}
@@ -68,30 +68,34 @@ unfolding test
 test-tidy k true = record { later = λ l s c l′ t e. still l s l′ t (cc) (cc) }
 test-tidy k false = record { later = λ l s c l′ t e. error-is-no-success e }
 
+pub held-tidy : (e : End) (n : ℕ) → Tidy (held e n)
+unfolding held
+held-tidy e n = record { later = λ l s. test-tidy 32 _ .later l s }
+
 module _ {A : Type 0} where
   pub repeat-tidy : (n : ℕ) (step : List A → Reader A) → ((acc : List A) → Tidy (step acc)) → (acc : List A) → Tidy (repeat n step acc)
   unfolding repeat
   repeat-tidy zero step h acc = return-tidy acc
   repeat-tidy (suc n) step h acc = bind-tidy (h acc) (λ a. repeat-tidy n step h (acc ++ (a ∷ [])))
 
-module _ {A : Type 0} (n k : ℕ) {r : Reader A} (hr : Tidy r) (l : List ℕ) (s : ℕ) (a : A) (l′ : List ℕ) (t : ℕ) where
+module _ {A : Type 0} (n k : ℕ) (r : End → Reader A) (hr : (e : End) → Tidy (r e)) (l : List ℕ) (s : ℕ) (a : A) (l′ : List ℕ) (t : ℕ) where
   ends : (b : Bool) (x : A) (l₁ : List ℕ) (t₁ : ℕ) → Later l s l₁ t₁ → go-on (test k b l₁ t₁) (λ u. return x) ≡ success a l′ t → Later l s l′ t
   unfolding test return
   ends true x l₁ t₁ z e = let p : l₁ ≡ l′ = cc in let q : t₁ ≡ t = cc in rw (p, q) at z
   ends false x l₁ t₁ z e = error-is-no-success e
 
-  reads : (x : ReadResult A) → r l s ≡ x → go-on x (λ a l′ t. go-on (test k (eqb t (s + n)) l′ t) (λ u. return a)) ≡ success a l′ t → Later l s l′ t
-  reads (success x l₁ t₁) p e = ends (eqb t₁ (s + n)) x l₁ t₁ (hr .later l s x l₁ t₁ p) e
+  reads : (x : ReadResult A) → r (end-at (s + n)) l s ≡ x → go-on x (λ a l′ t. go-on (test k (eqb t (s + n)) l′ t) (λ u. return a)) ≡ success a l′ t → Later l s l′ t
+  reads (success x l₁ t₁) p e = ends (eqb t₁ (s + n)) x l₁ t₁ (hr (end-at (s + n)) .later l s x l₁ t₁ p) e
   reads (more-needed p) q e = more-is-no-success e
   reads (error j) q e = error-is-no-success e
 
   frames : (b : Bool) → leb n (length l) ≡ b → framed n k r l s ≡ success a l′ t → Later l s l′ t
   unfolding _>>=_
-  frames true h e = reads (r l s) refl (sym (framed-fits n k r l s (is-leb n (length l) h)) ∙ e)
+  frames true h e = reads (r (end-at (s + n)) l s) refl (sym (framed-fits n k r l s (is-leb n (length l) h)) ∙ e)
   frames false h e = more-is-no-success (sym (framed-short n k r l s (is-nleb n (length l) h)) ∙ e)
 
-pub framed-tidy : {A : Type 0} (n k : ℕ) {r : Reader A} → Tidy r → Tidy (framed n k r)
-framed-tidy n k hr = record { later = λ l s a l′ t e. frames n k hr l s a l′ t (leb n (length l)) refl e }
+pub framed-tidy : {A : Type 0} (n k : ℕ) (r : End → Reader A) → ((e : End) → Tidy (r e)) → Tidy (framed n k r)
+framed-tidy n k r hr = record { later = λ l s a l′ t e. frames n k r hr l s a l′ t (leb n (length l)) refl e }
 
 -- the leaves
 read-later : (n : ℕ) (l : List ℕ) (s : ℕ) (p : Part) (l′ : List ℕ) (t : ℕ) → read n l s ≡ success p l′ t → Later l s l′ t
@@ -123,13 +127,13 @@ pub uint32-tidy : Tidy read-uint32
 unfolding read-uint32
 uint32-tidy = uint-tidy 4
 
-pub entry-tidy : Tidy read-short-length-seq
+pub entry-tidy : (e : End) → Tidy (read-short-length-seq e)
 unfolding read-short-length-seq
-entry-tidy = search (bind-tidy, uint16-tidy, read-tidy)
+entry-tidy e = search (bind-tidy, then-tidy, held-tidy, uint16-tidy, read-tidy)
 
-pub text-tidy : (k : ℕ) → Tidy (read-text k)
+pub text-tidy : (e : End) (k : ℕ) → Tidy (read-text e k)
 unfolding read-text
-text-tidy k = search (bind-tidy, then-tidy, test-tidy, return-tidy, entry-tidy) depth 20
+text-tidy e k = search (bind-tidy, then-tidy, test-tidy, return-tidy, entry-tidy) depth 20
 
 -- for readers that are put together of these: `search tidy depth 20`
-pub ruleset tidy = (bind-tidy, then-tidy, test-tidy, return-tidy, uint8-tidy, uint16-tidy, uint32-tidy, read-tidy, entry-tidy, text-tidy, repeat-tidy, framed-tidy)
+pub ruleset tidy = (bind-tidy, then-tidy, test-tidy, held-tidy, return-tidy, uint8-tidy, uint16-tidy, uint32-tidy, read-tidy, entry-tidy, text-tidy, repeat-tidy, framed-tidy)

@@ -1,4 +1,5 @@
 pub mod Answers
 pub mod ReadLaws
+pub mod EndLaws
 pub mod Stood
 pub mod StoreLaws

@@ -1,16 +1,17 @@
 -- What was read stands where the answer says; and a text, of an entry. Assumes nothing.
-use Prim.Native.Nat.{ℕ, _+_, _≤_, _<_}
+use Prim.Native.Nat.{ℕ, suc, _+_, _≤_, _<_}
 use mathlib.Core.Path.{_≡_, sym, ap, _∙_}
 use mathlib.Core.Bool.{Bool, true, false}
 use mathlib.Core.List.{List}
 use native.Mathlib.Omega.{arith}
 use lib.ListN.{length, take, drop}
-use Rattle.format.specs.Read.{Answer, accepted, at}
-use Rattle.format.specs.Serialize.{Part, read, read-uint8, read-uint16, read-uint32, read-short-length-seq}
+use Rattle.format.specs.Read.{End, end-at, Answer, accepted, at}
+use Rattle.format.proofs.Tests.{is-nleb}
+use Rattle.format.specs.Serialize.{Part, read-uint8, read-uint16, read-uint32, read-short-length-seq}
 use Rattle.format.specs.Utf8.{valid-utf8-seq}
 use Rattle.format.specs.Context.{read-text}
 use Rattle.format.specs.Places.{number16, part-of}
-use Rattle.steps.proofs.Numbers.{There, length-part, read-known, uint8-known, uint16-known, uint32-known}
+use Rattle.steps.proofs.Numbers.{There, length-part, uint8-known, uint16-known, uint32-known}
 use Rattle.steps.proofs.Entries.{entry-known, text-known, text-good, text-bad, text-stops}
 use Rattle.wire.specs.Codes.{because, number-of, span-of}
 use Rattle.wire.specs.declared.Refusal.{Refusal}
@@ -58,38 +59,41 @@ stood o m from size known s n t g =
     record { is = rw (← i) (g .is); start = a; long = d; tail = rw (a, d) (y .tail); within = omega (arith, y .tail, y .there) }
 
 module _ (m : List ℕ) (at′ : ℕ) (x : Span) (s n t : ℕ) (b : x ≡ span.At s n t) where
-  pub bytes-stood : (k : ℕ) → at′ ≤ length m → x ≡ span-of (at (read k) m at′) → Stood (at (read k) m at′) m at′ k s n t
-  bytes-stood k h e = stood (at (read k) m at′) m at′ k (read-known m at′ k h) s n t (span-got (at (read k) m at′) x e s n t b)
+  module _ (e : End) where
+    pub entry-stood : x ≡ span-of (at (read-short-length-seq e) m at′) → Stood (at (read-short-length-seq e) m at′) m (at′ + 2) (number16 m at′) s n t
+    entry-stood f =
+        stood (at (read-short-length-seq e) m at′) m (at′ + 2) (number16 m at′) (λ p u q. entry-known e m at′ p u q .0) s n t (span-got (at (read-short-length-seq e) m at′) x f s n t b)
 
-  pub entry-stood : x ≡ span-of (at read-short-length-seq m at′) → Stood (at read-short-length-seq m at′) m (at′ + 2) (number16 m at′) s n t
-  entry-stood e = stood (at read-short-length-seq m at′) m (at′ + 2) (number16 m at′) (entry-known m at′) s n t (span-got (at read-short-length-seq m at′) x e s n t b)
+    pub text-stood : (k : ℕ) → x ≡ span-of (at (read-text e k) m at′) → Stood (at (read-text e k) m at′) m (at′ + 2) (number16 m at′) s n t
+    text-stood k f = stood (at (read-text e k) m at′) m (at′ + 2) (number16 m at′) (λ p u q. text-known e k m at′ p u q .0) s n t (span-got (at (read-text e k) m at′) x f s n t b)
 
-  pub text-stood : (k : ℕ) → x ≡ span-of (at (read-text k) m at′) → Stood (at (read-text k) m at′) m (at′ + 2) (number16 m at′) s n t
-  text-stood k e = stood (at (read-text k) m at′) m (at′ + 2) (number16 m at′) (text-known k m at′) s n t (span-got (at (read-text k) m at′) x e s n t b)
+    pub entry-in : x ≡ span-of (at (read-short-length-seq e) m at′) → s + n ≤ length m
+    entry-in f = let y = entry-stood f in omega arith
 
-  pub entry-in : x ≡ span-of (at read-short-length-seq m at′) → s + n ≤ length m
-  entry-in e = let y = entry-stood e in omega arith
+    module _ (h : length m < 4294967296) where
+      pub entry-near : x ≡ span-of (at (read-short-length-seq e) m at′) → t < 4294967296
+      entry-near f = let y = entry-stood f in omega arith
 
-  pub text-in : (k : ℕ) → x ≡ span-of (at (read-text k) m at′) → s + n ≤ length m
-  text-in k e = let y = text-stood k e in omega arith
+      pub text-near : (k : ℕ) → x ≡ span-of (at (read-text e k) m at′) → t < 4294967296
+      text-near k f = let y = text-stood k f in omega arith
 
-  module _ (h : length m < 4294967296) where
-    pub entry-near : x ≡ span-of (at read-short-length-seq m at′) → t < 4294967296
-    entry-near e = let y = entry-stood e in omega arith
-
-    pub text-near : (k : ℕ) → x ≡ span-of (at (read-text k) m at′) → t < 4294967296
-    text-near k e = let y = text-stood k e in omega arith
+  -- a text that was read ends within its end
+  pub text-held : (e k : ℕ) → x ≡ span-of (at (read-text (end-at e) k) m at′) → t ≤ e
+  text-held e k f =
+      let g = span-got (at (read-text (end-at e) k) m at′) x f s n t b in
+      let z : t < suc e = is-nleb (suc e) t (text-known (end-at e) k m at′ (g .item) t (g .is) .1) in
+      omega arith
 
 -- a text
-module _ (m : List ℕ) (s k : ℕ) (x : Span) (is : x ≡ span-of (at read-short-length-seq m s)) where
-  pub text-none : (q : Refusal) → x ≡ span.Not q → x ≡ span-of (at (read-text k) m s)
-  text-none q b = b ∙ sym (ap span-of (text-stops k m s _ _ (span-no (at read-short-length-seq m s) x is q b)))
+module _ (m : List ℕ) (s : ℕ) (e : End) (k : ℕ) (x : Span) (is : x ≡ span-of (at (read-short-length-seq e) m s)) where
+  pub text-none : (q : Refusal) → x ≡ span.Not q → x ≡ span-of (at (read-text e k) m s)
+  text-none q b = b ∙ sym (ap span-of (text-stops e k m s _ _ (span-no (at (read-short-length-seq e) m s) x is q b)))
 
   module _ (a n t : ℕ) (b : x ≡ span.At a n t) (u : Bool) (valid : u ≡ valid-utf8-seq (take n (drop a m))) where
-    pub text-yes : u ≡ true → span.At a n t ≡ span-of (at (read-text k) m s)
-    text-yes e =
-        let y = entry-stood m s x a n t b is in
-        sym b ∙ is ∙ rw (y .is, text-good k m s (part-of m a n) t (y .is) (sym valid ∙ e))
+    pub text-yes : u ≡ true → span.At a n t ≡ span-of (at (read-text e k) m s)
+    text-yes f =
+        let y = entry-stood m s x a n t b e is in
+        sym b ∙ is ∙ rw (y .is, text-good e k m s (part-of m a n) t (y .is) (sym valid ∙ f))
 
-    pub text-not : u ≡ false → (q : Refusal) → q ≡ because k 0 → span.Not q ≡ span-of (at (read-text k) m s)
-    text-not e q f = let y = entry-stood m s x a n t b is in rw (f, text-bad k m s (part-of m a n) t (y .is) (sym valid ∙ e))
+    pub text-not : u ≡ false → (q : Refusal) → q ≡ because k 0 → span.Not q ≡ span-of (at (read-text e k) m s)
+    text-not f q g = let y = entry-stood m s x a n t b e is in rw (g, text-bad e k m s (part-of m a n) t (y .is) (sym valid ∙ f))

@@ -53,6 +53,12 @@ pub enum Span {
     Not(Refusal),
 }
 
+// The end that what is read has to stay within: none, or that of the section it stands in.
+pub enum End {
+    None,
+    At(u64),
+}
+
 impl Number {
     // The refusal, where there is one.
     pub fn refusal(self) -> Refusal

@@ -1,4 +1,5 @@
 // The readers of the leaves as operations of their own: refusal 1 comes first, and any start will do.
+use super::End;
 use super::Number;
 use super::Span;
 use super::reading;
@@ -7,7 +8,7 @@ use super::refuse;
 ghost use mathlib.Core.Path.{_≡_};
 ghost use Rattle.format.specs.Read.{operation};
 ghost use Rattle.format.specs.Serialize.{read-operation, read-uint8, read-uint16, read-uint32, read-short-length-seq};
-ghost use Rattle.wire.specs.Codes.{number-of, span-of};
+ghost use Rattle.wire.specs.Codes.{number-of, span-of, end-of};
 
 pub fn read_u8(m: &[u8], start: u64) -> Number
     ensures { λ r. ⌜ r ≡ number-of (operation read-uint8 (now (m .entry)) start) ⌝ }
@@ -46,11 +47,11 @@ pub fn read_bytes(m: &[u8], start: u64, n: u32) -> Span
     Span::Not(refuse(NOT_ADDRESSABLE))
 }
 
-pub fn read_entry(m: &[u8], start: u64) -> Span
-    ensures { λ r. ⌜ r ≡ span-of (operation read-short-length-seq (now (m .entry)) start) ⌝ }
+pub fn read_entry(m: &[u8], start: u64, end: End) -> Span
+    ensures { λ r. ⌜ r ≡ span-of (operation (read-short-length-seq (end-of end)) (now (m .entry)) start) ⌝ }
 {
     if reading::is_addressable(m, start) {
-        return reading::read_entry(m, start);
+        return reading::read_entry(m, start, end);
     }
     Span::Not(refuse(NOT_ADDRESSABLE))
 }

@@ -1,7 +1,10 @@
 // Reading at a place of a message, for the readers that are put together of these. They require a start below 2^32, which
 // refusal 1 answers for, so that no place wraps; `operations` has the same without a `requires`.
+use super::End;
 use super::Number;
+use super::Refusal;
 use super::Span;
+use super::refusals::PAST_SECTION;
 use super::refuse;
 use super::shortage;
 ghost use mathlib.Core.Path.{_≡_};
@@ -11,7 +14,7 @@ ghost use Rattle.format.specs.Read.{at, addressable};
 ghost use Rattle.format.specs.Serialize.{read, read-at, read-uint8, read-uint16, read-uint32, read-short-length-seq};
 ghost use Rattle.format.specs.Context.{read-text};
 ghost use Rattle.format.specs.Places.{number8, number16, number32};
-ghost use Rattle.wire.specs.Codes.{number-of, span-of, Below};
+ghost use Rattle.wire.specs.Codes.{number-of, span-of, end-of, limit-of, beyond-of, Below};
 
 // Refusal 1: both have to be at most 4,294,967,295.
 pub fn is_addressable(m: &[u8], start: u64) -> bool
@@ -104,14 +107,6 @@ pub(crate) fn bytes_at(m: &[u8], s: u64, n: u64) -> Span
     }
 }
 
-// n bytes behind something that was read.
-pub fn read_bytes(m: &[u8], s: u64, n: u64) -> Span
-    requires { ⌜ (s ≤ length (now m)) × (n < 65536) ⌝ }
-    ensures { λ r. ⌜ r ≡ span-of (at (read n) (now (m .entry)) s) ⌝ }
-{
-    bytes_at(m, s, n)
-}
-
 // n bytes, one at least, at any start.
 pub fn read_some_bytes(m: &[u8], s: u64, n: u64) -> Span
     requires { ⌜ (0 < n) × (n < 65536) × (s < 4294967296) ⌝ }
@@ -120,24 +115,57 @@ pub fn read_some_bytes(m: &[u8], s: u64, n: u64) -> Span
     bytes_at(m, s, n)
 }
 
-// ReadShortLengthSeq.
-pub fn read_entry(m: &[u8], s: u64) -> Span
-    requires { ⌜ s < 4294967296 ⌝ }
-    ensures { λ r. ⌜ r ≡ span-of (at read-short-length-seq (now (m .entry)) s) ⌝ }
+// Up to where bytes may be read: the end, where the message reaches it, or else the message's.
+fn limit(m: &[u8], end: End) -> u64
+    ensures { λ r. ⌜ r ≡ limit-of (end-of end) (length (now (m .entry))) ⌝ }
 {
-    let n = read_u16(m, s);
-    let Number::Is { value, tail } = n else {
-        return Span::Not(n.refusal());
+    let all = m.len() as u64;
+    let End::At(place) = end else {
+        return all;
     };
-    read_bytes(m, tail, value)
+    if place < all {
+        return place;
+    }
+    all
 }
 
-// An entry of UTF-8, else the refusal with the number.
-pub fn read_text(m: &[u8], s: u64, number: u8) -> Span
-    requires { ⌜ s < 4294967296 ⌝ }
-    ensures { λ r. ⌜ r ≡ span-of (at (read-text number) (now (m .entry)) s) ⌝ }
+// Why bytes that would end at `tail`, beyond the limit, can't be read: that they run past the end comes before a shortage.
+fn beyond(end: End, tail: u64) -> Refusal
+    ensures { λ r. ⌜ r ≡ beyond-of (end-of end) tail ⌝ }
 {
-    let e = read_entry(m, s);
+    let End::At(place) = end else {
+        return shortage(tail);
+    };
+    if place < tail {
+        return refuse(PAST_SECTION);
+    }
+    shortage(tail)
+}
+
+// ReadShortLengthSeq, held to an end.
+pub fn read_entry(m: &[u8], s: u64, end: End) -> Span
+    requires { ⌜ s < 4294967296 ⌝ }
+    ensures { λ r. ⌜ r ≡ span-of (at (read-short-length-seq (end-of end)) (now (m .entry)) s) ⌝ }
+{
+    let start = s + 2;
+    let to = limit(m, end);
+    if to < start {
+        return Span::Not(beyond(end, start));
+    }
+    let len = known_u16(m, s);
+    let tail = start + len;
+    if to < tail {
+        return Span::Not(beyond(end, tail));
+    }
+    Span::At { start, len, tail }
+}
+
+// An entry of UTF-8, held to an end, else the refusal with the number.
+pub fn read_text(m: &[u8], s: u64, end: End, number: u8) -> Span
+    requires { ⌜ s < 4294967296 ⌝ }
+    ensures { λ r. ⌜ r ≡ span-of (at (read-text (end-of end) number) (now (m .entry)) s) ⌝ }
+{
+    let e = read_entry(m, s, end);
     let Span::At { start, len, tail } = e else {
         return e;
     };

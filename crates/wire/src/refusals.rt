@@ -39,10 +39,10 @@ pub const VALUE_NOT_UTF8: u8 = 11;
 // A key of the context was seen before.
 pub const KEY_SEEN_BEFORE: u8 = 12;
 
-// The pairs take 65,534 bytes or more.
+// Writing, the pairs take 65,534 bytes or more.
 pub const PAIRS_TOO_LONG: u8 = 13;
 
-// The pairs do not end where the section's stored length says.
+// The pairs end before the section does.
 pub const CONTEXT_LENGTH: u8 = 14;
 
 // The count of keys is above the maximum.
@@ -95,3 +95,6 @@ pub const TAG_LENGTH: u8 = 30;
 
 // The table of required keys has an odd length, or a place lies outside its text.
 pub const REQUIRED_TABLE_OR_PLACE: u8 = 31;
+
+// A count, an entry's length or its bytes would end past the context section.
+pub const PAST_SECTION: u8 = 32;

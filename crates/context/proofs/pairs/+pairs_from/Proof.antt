@@ -18,7 +18,7 @@ use Rattle.context.proofs.pairs.+pairs_from.Tie.{close}
 ruleset laws = (least-left, least-right, least-from, reached-some, reached-room, up-to-grown, up-to-stop, up-to-reached, up-to-end, needs)
 
 abbrev μ-pairs-from : Measures 2 pairs-from-kinds.ps ℕ
-μ-pairs-from κs a = 512 - length (a .1 .1 .1 .1 .1 .0 .now)
+μ-pairs-from κs a = 512 - length (a .1 .1 .1 .1 .1 .1 .0 .now)
 
 abbrev pairs-from-at : ℕ → In 2 pairs-from-kinds.ps
 pairs-from-at t = and 2 pairs-from-kinds.ps (is 2 pairs-from-kinds.ps μ-pairs-from t) pairs-from.Pre

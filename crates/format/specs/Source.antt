@@ -1,0 +1,56 @@
+-- EncryptionContext.dfy as its function bodies read: the source holds no part of a context section to the section's end, and tests what
+-- the pairs take instead. It is kept to be compared with (specs/SourceEquality); no contract cites it. Assumes nothing.
+use mathlib.Core.Bool.{Bool, true, false, not}
+use mathlib.Core.List.{List, [], map}
+use Prim.Native.Nat.{ℕ, _+_, _*_}
+use lib.Dec.{leb, ltb, eqb}
+use lib.ListN.{length}
+use Rattle.format.specs.Read.{Reader, _>>=_, _>>_, return, test, no-end, framed}
+use Rattle.format.specs.Serialize.{Part, read-uint16}
+use Rattle.format.specs.Fields.{PairAt, pair-of, HeaderBody}
+use Rattle.format.specs.Context.{seen, pair-length, linear-length, pairs-limit, Mode, tolerant, read-aad-pair, read-aad-by, look-up}
+use Rattle.format.specs.OnlyAuthenticated.{only-authenticated, in-twos, fitting}
+use Rattle.format.specs.Body.{Opening, read-opening, Request, after-context}
+
+-- a step of ReadAADPairs, with 13: the pairs so far take 65,534 bytes or more
+unfoldable pub source-read-next-aad-pair : List PairAt → Reader PairAt
+source-read-next-aad-pair acc = do
+  p ← read-aad-pair no-end
+  test 12 (not (seen (p .key .bytes) (map pair-of acc)))
+  test 13 (ltb (linear-length (map pair-of acc) + pair-length (pair-of p)) pairs-limit)
+  return p
+
+-- what follows the section's length n; true: n is 0. Here 14 means ending early or late.
+unfoldable pub source-read-aad-of : Mode → Bool → ℕ → Reader (List PairAt)
+source-read-aad-of mode true n = return []
+source-read-aad-of mode false n = framed n 14 (λ e. read-aad-by source-read-next-aad-pair mode n)
+
+-- ReadAADSection
+unfoldable pub source-read-aad-section : Mode → Reader (List PairAt)
+source-read-aad-section mode = do
+  n ← read-uint16
+  source-read-aad-of mode (eqb n 0) n
+
+-- the operations that read a section, each with the source's in its place
+unfoldable pub source-read-aad-section-into : Mode → ℕ → Reader (List PairAt)
+source-read-aad-section-into mode room = do
+  ps ← source-read-aad-section mode
+  test 22 (leb (4 * length ps) room)
+  return ps
+
+unfoldable pub source-find-value : List ℕ → Reader Part
+source-find-value k = do
+  ps ← source-read-aad-section tolerant
+  look-up k ps
+
+unfoldable pub source-write-only-authenticated : List ℕ → List ℕ → ℕ → Reader (List ℕ)
+source-write-only-authenticated text required room = do
+  ps ← source-read-aad-section tolerant
+  test 31 (in-twos text required)
+  fitting room (only-authenticated text required ps)
+
+unfoldable pub source-after-opening : Request → Opening → Reader HeaderBody
+source-after-opening q o = source-read-aad-section (q .mode) >>= after-context q o
+
+unfoldable pub source-read-body : Request → Reader HeaderBody
+source-read-body q = read-opening (q .which) >>= source-after-opening q
