@@ -57,7 +57,7 @@ pub fn kind(random: &mut Random) -> Kind {
     }
 }
 
-/// What a section's own bytes decide, given at least one ASCII byte behind.
+/// What a section's own bytes decide, given at least one byte behind.
 #[derive(Clone, Copy, Debug, PartialEq, Eq)]
 pub enum Verdict {
     Accepted,
@@ -104,34 +104,39 @@ pub fn stretch(random: &mut Random, pairs: &mut Vec<Pair>, total: usize) -> usiz
     at
 }
 
-/// Pairs that take 65,534 bytes or a few more, in any order. A fault in the
-/// pair that passes the limit is met before 13; one in a later pair is not.
+/// Pairs that take 65,534 bytes or a few more, in any order. No stored length
+/// can be right, so one of their parts goes past the section. A fault in that
+/// part or a later one is not met before 32; one in an earlier pair is.
 fn too_long(random: &mut Random) -> Section {
-    let total = 65_534
-        + if random.one_in(2) {
-            0
-        } else {
-            random.index(30)
-        };
+    let more = if random.one_in(2) {
+        0
+    } else {
+        random.index(30)
+    };
+    let total = 65_534 + more;
     let mut pairs = some_pairs(random);
-    let mut number = 13;
+    let mut number = 32;
+    // Any length above 2 leads into the pairs.
+    let mut length = if random.one_in(2) {
+        65_535
+    } else {
+        random.between(3, 65_535) as u16
+    };
     match random.below(4) {
         0 => {
             let key = pairs[random.index(pairs.len())].0.clone();
             let rest = 65_534 - pairs_length(&pairs) - 4 - key.len();
             pairs.push((key, text_of(random, rest)));
-            number = 12;
         }
         1 => {
             stretch(random, &mut pairs, total);
             let passing = passing(&pairs);
             pairs[passing].1.push(0x80);
-            number = 11;
         }
         2 => {
             stretch(random, &mut pairs, total);
-            let key = pairs[random.index(pairs.len())].0.clone();
-            pairs.push((key, Vec::new()));
+            pairs.insert(0, (bad_text(random), Vec::new()));
+            (length, number) = (65_535, 10);
         }
         _ => {
             stretch(random, &mut pairs, total);
@@ -140,12 +145,6 @@ fn too_long(random: &mut Random) -> Section {
             }
         }
     }
-    // No stored length can be right; any above 2 leads into the pairs.
-    let length = if random.one_in(2) {
-        65_535
-    } else {
-        random.between(3, 65_535) as u16
-    };
     let image = section_with(&pairs, length, pairs.len() as u16);
     Section {
         image,
@@ -210,11 +209,11 @@ pub fn build(random: &mut Random, kind: Kind) -> Section {
         }
         Kind::LengthDown => {
             image = section_with(&pairs, length - 1, count);
-            verdict = Verdict::Refused(14);
+            verdict = Verdict::Refused(32);
         }
         Kind::CountUp => {
             image = section_with(&pairs, length, count + 1);
-            verdict = Verdict::Open;
+            verdict = Verdict::Refused(32);
         }
         Kind::CountDown => {
             image = section_with(&pairs, length, count - 1);
@@ -235,14 +234,14 @@ pub fn build(random: &mut Random, kind: Kind) -> Section {
             image = section_with(&[], length, 0);
             let rest = random.bytes(usize::from(length).saturating_sub(2));
             image.bytes.extend(rest);
-            verdict = Verdict::Refused(9);
+            verdict = Verdict::Refused(if length == 1 { 32 } else { 9 });
         }
         Kind::PastEnd => {
-            // The last value takes in the byte behind, which stays ASCII.
+            // The last value takes in the byte behind.
             let value = pairs[pairs.len() - 1].1.len();
             let at = image.bytes.len() - value - 2;
             image.bytes[at..at + 2].copy_from_slice(&(value as u16 + 1).to_be_bytes());
-            verdict = Verdict::Refused(14);
+            verdict = Verdict::Refused(32);
         }
         Kind::Noise => {
             let count = random.length(60);
