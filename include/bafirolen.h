@@ -27,16 +27,18 @@
  * input is allowed: each call on parts lent as above returns, with exactly one answer.
  *
  * The comment of each function lists the refusals that it can answer ("Refuses"), in the order of its tests: of two that apply
- * the first is answered. 10, 11, 12 and, in reading, 13 are tested of one pair after the other, and 16 of one key after the
+ * the first is answered. 10, 11, 12 and, in reading, 32 are tested of one pair after the other, and 16 of one key after the
  * other, so that the first pair or key with a fault decides. 2 is answered where the next field is not all there. Fields are read
- * one by one, but the context section is awaited whole, once its length is read, before any of its pairs is tested.
+ * one by one, but the context section is awaited whole, once its length is read, before any of its pairs is tested. In it the
+ * count, and the length and bytes of each key and value, are refused by 32 where they would end past the section, before they are
+ * read.
  *
  * WHAT TO DO WITH A REFUSAL.
  * BAFIROLEN_REFUSED_SHORTAGE: fetch more, until the message has at least `position` bytes, and call again; with fewer the answer
  * is the same. `position` is the end of the next field only, and each call reads from `start` again: fetch what is at hand, or
  * twice as much, rather than just up to it. If no more will come, or `position` is above 4,294,967,295, reject the message. Set a
- * limit: lengths in a message may claim what never comes, and a key or value of a context may claim to end after the context
- * section, which is then refused (by 14, or an earlier test) once those bytes have come.
+ * limit: lengths in a message may claim what never comes. No part of a context is waited for past its section: where it claims to
+ * end there, the message is damaged, and is refused by 32 as soon as the section is there.
  * BAFIROLEN_REFUSED_PAIR_TABLE_TOO_SHORT, .._KEY_TABLE_TOO_SHORT, .._OUTPUT_TOO_SHORT: lend more, and call again. The answer does
  * not say how much: lend twice as much, or a table of BAFIROLEN_LARGEST_PAIR_TABLE or BAFIROLEN_LARGEST_KEY_TABLE numbers; the
  * writers' comments say how long an output has to be. The two calls and the listing have tables of their own; where these are too
@@ -67,7 +69,7 @@ extern "C" {
  * The version of these declarations, which grows by one with each change of them. bafirolen_version gives that of the archive:
  * where the two differ, the archive was made for another header file than this.
  */
-#define BAFIROLEN_VERSION 2
+#define BAFIROLEN_VERSION 3
 uint32_t bafirolen_version(void);
 
 /*
@@ -86,7 +88,7 @@ uint32_t bafirolen_version(void);
  * THE TWO CALLS. The header body at `start` in one number: 0 where it is accepted, else the refusal; and its position: the tail
  * where it is accepted, else 0 but for BAFIROLEN_REFUSED_SHORTAGE. It is read in either version, tolerantly, with no maximum and
  * with tables of 4,096 numbers, so at most 1,024 pairs and 682 keys.
- * Refuses: 1 2 3 5 6 7 8 9 10 11 12 13 14 16 17 18 19 20 22 23.
+ * Refuses: 1 2 3 5 6 7 32 8 9 10 11 12 14 16 17 18 19 20 22 23.
  * Stack: BAFIROLEN_STACK_LISTED.
  */
 uint32_t bafirolen_header_number(const uint8_t *message, size_t message_len, uint64_t start);
@@ -106,7 +108,7 @@ uint64_t bafirolen_header_position(const uint8_t *message, size_t message_len, u
  * has_max: BAFIROLEN_NO_MAX, and `max` is not looked at; any other number: at most `max` keys.
  * pairs, keys: accepted, they begin with four numbers for each pair and six for each key, in the order of the section. The numbers
  * after those are left as they were.
- * Refuses: 1 2 3 4 5 6 7 8 21 9 10 11 12 13 14 15 16 17 18 19 20 22 23.
+ * Refuses: 1 2 3 4 5 6 7 32 8 21 9 10 11 12 14 15 16 17 18 19 20 22 23.
  * 4 only where one version is asked for; 5, 18 and 19 only of a message of version 1; 20 only where either version is asked for;
  * 21 only where strict.
  * Stack: BAFIROLEN_STACK_READ.
@@ -117,7 +119,7 @@ BafirolenBody bafirolen_read_header_body(const uint8_t *message, size_t message_
 
 /*
  * Reads the context section at `start`; mode and table as `mode` and `pairs` of bafirolen_read_header_body.
- * Refuses: 1 2 8 21 9 10 11 12 13 14 22.
+ * Refuses: 1 2 32 8 21 9 10 11 12 14 22.
  * 21 only where strict.
  * Stack: BAFIROLEN_STACK_READ.
  */
@@ -135,7 +137,7 @@ BafirolenSection bafirolen_read_encrypted_data_keys_section(const uint8_t *messa
 /*
  * Finds the value of a key of the context in the context section at `start`, read tolerantly. For a body that was accepted
  * bafirolen_context_start gives that start. The key may be any bytes: one that is not UTF-8 is not found. Changes nothing.
- * Refuses: 1 2 8 9 10 11 12 13 14 29.
+ * Refuses: 1 2 32 8 9 10 11 12 14 29.
  * Stack: BAFIROLEN_STACK_READ.
  */
 BafirolenPlace bafirolen_find_value(const uint8_t *message, size_t message_len, uint64_t start, const uint8_t *key,
@@ -143,7 +145,7 @@ BafirolenPlace bafirolen_find_value(const uint8_t *message, size_t message_len, 
 
 /*
  * Copies the value that bafirolen_find_value finds to `out`, from its first byte on; the bytes after it are left as they were.
- * Refuses: 1 2 8 9 10 11 12 13 14 29 28.
+ * Refuses: 1 2 32 8 9 10 11 12 14 29 28.
  * Stack: BAFIROLEN_STACK_READ.
  */
 BafirolenWritten bafirolen_copy_value(const uint8_t *message, size_t message_len, uint64_t start, const uint8_t *key,
@@ -211,7 +213,7 @@ BafirolenWritten bafirolen_write_header_body(BafirolenNumbers numbers, const uin
  * has, or that is named twice, changes nothing. All numbers are taken: zeros at the end of a longer table are the empty key.
  * out: what is written takes 2 bytes, 4 for each pair, and its parts. It is never longer than the whole section, nor than 65,535
  * bytes: an output of either length is never too short.
- * Refuses: 1 2 8 9 10 11 12 13 14 31 28.
+ * Refuses: 1 2 32 8 9 10 11 12 14 31 28.
  * Stack: BAFIROLEN_STACK_ONLY_AUTHENTICATED.
  */
 BafirolenWritten bafirolen_write_only_authenticated(const uint8_t *message, size_t message_len, uint64_t start,

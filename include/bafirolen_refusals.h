@@ -22,7 +22,7 @@ enum BafirolenRefusal {
     BAFIROLEN_REFUSED_KEY_NOT_UTF8 = 10, /* a key of the context, as in 12 and 29 */
     BAFIROLEN_REFUSED_VALUE_NOT_UTF8 = 11,
     BAFIROLEN_REFUSED_KEY_SEEN_BEFORE = 12,
-    BAFIROLEN_REFUSED_PAIRS_TOO_LONG = 13,
+    BAFIROLEN_REFUSED_PAIRS_TOO_LONG = 13, /* in writing alone */
     BAFIROLEN_REFUSED_CONTEXT_LENGTH = 14,
     BAFIROLEN_REFUSED_TOO_MANY_KEYS = 15, /* encrypted data keys, as in 16 and 23 */
     BAFIROLEN_REFUSED_PROVIDER_ID_NOT_UTF8 = 16,
@@ -40,7 +40,8 @@ enum BafirolenRefusal {
     BAFIROLEN_REFUSED_OUTPUT_TOO_SHORT = 28,
     BAFIROLEN_REFUSED_NOT_FOUND = 29,
     BAFIROLEN_REFUSED_TAG_LENGTH = 30,
-    BAFIROLEN_REFUSED_REQUIRED_TABLE_OR_PLACE = 31
+    BAFIROLEN_REFUSED_REQUIRED_TABLE_OR_PLACE = 31,
+    BAFIROLEN_REFUSED_PAST_SECTION = 32 /* a count, or the length or the bytes of a key or value */
 };
 
 /* A refusal in words. Any other number has the words for unknown ones. */
@@ -61,7 +62,7 @@ static inline const char *bafirolen_refusal_text(uint64_t number)
         "value not UTF-8",
         "key seen before",
         "the pairs take 65,534 bytes or more",
-        "the pairs' end differs from the stored length",
+        "the pairs end before the section does",
         "key count above the maximum",
         "provider ID not UTF-8",
         "content type not 01 or 02",
@@ -79,6 +80,7 @@ static inline const char *bafirolen_refusal_text(uint64_t number)
         "no pair has the key",
         "tag not 16 bytes",
         "required table of odd length, or a place outside its text",
+        "part of a context section that would end past the section",
     };
     return number < sizeof texts / sizeof *texts ? texts[number] : "unknown refusal";
 }

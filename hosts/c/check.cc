@@ -117,7 +117,7 @@ int main()
 {
     same("the version of the declarations", bafirolen_version(), uint32_t(BAFIROLEN_VERSION));
     same("the text of a refusal", std::string(bafirolen_refusal_text(BAFIROLEN_REFUSED_NOT_FOUND)), "no pair has the key");
-    same("the text of no refusal", std::string(bafirolen_refusal_text(32)), "unknown refusal");
+    same("the text of no refusal", std::string(bafirolen_refusal_text(33)), "unknown refusal");
     read_and_write_again();
     only_authenticated();
     empty_vectors();

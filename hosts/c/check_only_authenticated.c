@@ -103,14 +103,17 @@ static void refused_sections(void)
                 {TEXT("\0\0"), 4294967296u, BAFIROLEN_REFUSED_NOT_ADDRESSABLE, 0},
                 {TEXT("\0\0"), UINT64_MAX, BAFIROLEN_REFUSED_NOT_ADDRESSABLE, 0},
                 {TEXT("\0\6\0\1\0\0\0"), 0, BAFIROLEN_REFUSED_SHORTAGE, 8},
-                {TEXT("\0\1\0"), 0, BAFIROLEN_REFUSED_SHORTAGE, 4},
-                {TEXT("\0\4\0\1\0\5"), 0, BAFIROLEN_REFUSED_SHORTAGE, 11},
+                {TEXT("\0\1\0"), 0, BAFIROLEN_REFUSED_PAST_SECTION, 0},
+                {TEXT("\0\1\0\0"), 0, BAFIROLEN_REFUSED_PAST_SECTION, 0},
+                {TEXT("\0\4\0\1\0\5"), 0, BAFIROLEN_REFUSED_PAST_SECTION, 0},
+                {TEXT("\0\4\0\1\0\5abcde\0\0"), 0, BAFIROLEN_REFUSED_PAST_SECTION, 0},
+                {TEXT("\xFF\0\6\0\1\0\0\0\1"), 1, BAFIROLEN_REFUSED_PAST_SECTION, 0},
                 {TEXT("\0\2\0\1"), 0, BAFIROLEN_REFUSED_COUNT_IN_EMPTY_CONTEXT, 0},
                 {TEXT("\0\3\0\0\0"), 0, BAFIROLEN_REFUSED_NO_COUNT_IN_CONTEXT, 0},
                 {TEXT("\0\10\0\1\0\2\xC0\x80\0\0"), 0, BAFIROLEN_REFUSED_KEY_NOT_UTF8, 0},
                 {TEXT("\0\10\0\1\0\0\0\2\xC0\x80"), 0, BAFIROLEN_REFUSED_VALUE_NOT_UTF8, 0},
                 {TEXT("\0\12\0\2\0\0\0\0\0\0\0\0"), 0, BAFIROLEN_REFUSED_KEY_SEEN_BEFORE, 0},
-                {TEXT("\0\4\0\1\0\5abcde\0\0"), 0, BAFIROLEN_REFUSED_CONTEXT_LENGTH, 0}};
+                {TEXT("\0\7\0\1\0\0\0\0\0"), 0, BAFIROLEN_REFUSED_CONTEXT_LENGTH, 0}};
     BafirolenWritten w;
     size_t i;
     fresh();
@@ -142,7 +145,7 @@ static void empty_contexts(void)
     }
 }
 
-/* one pair of 65,533 bytes, whose key is lent as its own place; with one byte more it is refused, as in reading */
+/* one pair of 65,533 bytes, whose key is lent as its own place; with one byte more it goes past its section */
 static void longest(void)
 {
     static uint8_t m[65538], image[65536];
@@ -162,7 +165,7 @@ static void longest(void)
     m[5] = 0xFA;
     m[65535] = 'a';
     w = bafirolen_write_only_authenticated(m, 65538, 0, m, sizeof m, required, 2, image, sizeof image);
-    written_is("a longer one", w, BAFIROLEN_REFUSED_PAIRS_TOO_LONG, 0);
+    written_is("a longer one", w, BAFIROLEN_REFUSED_PAST_SECTION, 0);
     same_bytes("a longer one", image, "\0\1\xFF\xF9", 4);
 }
 

@@ -1,7 +1,7 @@
 /*
  * A host in C: calls every exported operation that reads but one, and compares each number that it answers, and each byte and
- * table entry that it was lent, with what document 01 says. Writes `compared N cases`; a difference is written to standard error,
- * and the exit status is 1. check_writers.c does the same for what writes, and for reading authentication records.
+ * table entry that it was lent, with what documents 01 and 02 say. Writes `compared N cases`; a difference is written to standard
+ * error, and the exit status is 1. check_writers.c does the same for what writes, and for reading authentication records.
  *
  *     rt staticlib bafirolen_c
  *     gcc -std=c99 -O2 -Wall -Wextra -Iinclude hosts/c/check_readers.c target/staticlib/libbafirolen_c.a -o target/check_readers
@@ -103,13 +103,21 @@ static void sections(void)
         {{0, 2}, 4, 255, BAFIROLEN_REFUSED_OLD_EMPTY_CONTEXT, 0, 0, 0},
         {{0, 2, 0, 1}, 4, 0, BAFIROLEN_REFUSED_COUNT_IN_EMPTY_CONTEXT, 0, 0, 0},
         {{0, 3}, 5, 0, BAFIROLEN_REFUSED_NO_COUNT_IN_CONTEXT, 0, 0, 0},
-        {{0, 1}, 3, 0, BAFIROLEN_REFUSED_SHORTAGE, 4, 0, 0},
-        {{0, 1}, 4, 0, BAFIROLEN_REFUSED_NO_COUNT_IN_CONTEXT, 0, 0, 0},
+        {{0, 1}, 2, 0, BAFIROLEN_REFUSED_SHORTAGE, 3, 0, 0},
+        {{0, 1}, 3, 0, BAFIROLEN_REFUSED_PAST_SECTION, 0, 0, 0},
+        {{0, 1}, 3, 1, BAFIROLEN_REFUSED_PAST_SECTION, 0, 0, 0},
+        {{0, 1}, 4, 0, BAFIROLEN_REFUSED_PAST_SECTION, 0, 0, 0},
         {{0, 6, 0, 1}, 8, 0, 0, 0, 1, 8},
         {{0, 10, 0, 2}, 12, 0, BAFIROLEN_REFUSED_KEY_SEEN_BEFORE, 0, 0, 0},
         {{0, 8, 0, 1, 0, 2, 0xC0, 0x80}, 10, 0, BAFIROLEN_REFUSED_KEY_NOT_UTF8, 0, 0, 0},
-        {{0, 4, 0, 1, 0, 5}, 6, 0, BAFIROLEN_REFUSED_SHORTAGE, 11, 0, 0},
-        {{0, 4, 0, 1, 0, 5, 0x61, 0x62, 0x63, 0x64, 0x65}, 13, 0, BAFIROLEN_REFUSED_CONTEXT_LENGTH, 0, 0, 0},
+        {{0, 4, 0, 1, 0, 5}, 5, 0, BAFIROLEN_REFUSED_SHORTAGE, 6, 0, 0},
+        {{0, 4, 0, 1, 0, 5}, 6, 0, BAFIROLEN_REFUSED_PAST_SECTION, 0, 0, 0},
+        {{0, 4, 0, 1, 0, 5, 0x61, 0x62, 0x63, 0x64, 0x65}, 13, 0, BAFIROLEN_REFUSED_PAST_SECTION, 0, 0, 0},
+        {{0, 3, 0, 1}, 5, 0, BAFIROLEN_REFUSED_PAST_SECTION, 0, 0, 0},
+        {{0, 5, 0, 1}, 8, 0, BAFIROLEN_REFUSED_PAST_SECTION, 0, 0, 0},
+        {{0, 6, 0, 1, 0, 0, 0, 1}, 9, 1, BAFIROLEN_REFUSED_PAST_SECTION, 0, 0, 0},
+        {{0, 6, 0, 2}, 8, 0, BAFIROLEN_REFUSED_PAST_SECTION, 0, 0, 0},
+        {{0, 7, 0, 1}, 9, 0, BAFIROLEN_REFUSED_CONTEXT_LENGTH, 0, 0, 0},
     };
     static const uint32_t empty_pair[4] = {6, 0, 8, 0};
     BafirolenSection s;
@@ -148,6 +156,7 @@ static void find(void)
                 {"lan", BAFIROLEN_REFUSED_NOT_FOUND, 0, 0},
                 {"langu", BAFIROLEN_REFUSED_NOT_FOUND, 0, 0},
                 {"", BAFIROLEN_REFUSED_NOT_FOUND, 0, 0}};
+    static const uint8_t past[6] = {0, 4, 0, 1, 0, 5};
     BafirolenPlace p;
     size_t i;
     for (i = 0; i < COUNT(rows); i++) {
@@ -169,11 +178,41 @@ static void find(void)
     output_is("a value into 1 byte", fresh_bytes, 0);
     written_at("a copy of a section cut", bafirolen_copy_value(H, 30, 20, H, 0, out, BYTES), BAFIROLEN_REFUSED_SHORTAGE, 34, 0);
     output_is("a copy of a section cut", fresh_bytes, 0);
+    written_is("a copy of a key past its section", bafirolen_copy_value(past, sizeof past, 0, past, 0, out, BYTES),
+               BAFIROLEN_REFUSED_PAST_SECTION, 0);
+    output_is("a copy of a key past its section", fresh_bytes, 0);
+    p = bafirolen_find_value(past, sizeof past, 0, past, 0);
+    same("a key past its section", p.number, BAFIROLEN_REFUSED_PAST_SECTION);
+    same("a key past its section", p.position, 0);
     p = bafirolen_find_value(H, 30, 20, H, 0);
     same("a section cut", p.number, BAFIROLEN_REFUSED_SHORTAGE);
     same("a section cut", p.position, 34);
     same("a section cut", p.start, 0);
     same("a section cut", p.len, 0);
+}
+
+/* H whose section's length is set: up to 11 a part of its one pair would end past it, and from 13 on the pair ends before it; a
+ * message that ends where the section does is no shorter for that, but where the pair fills it, which leaves the key count out */
+static void section_lengths(void)
+{
+    static const uint64_t q[6] = {0, 0, 0, 0, NUMBERS, NUMBERS};
+    uint8_t m[58];
+    uint8_t length;
+    memcpy(m, H, sizeof m);
+    for (length = 1; length <= 14; length++) {
+        const uint64_t number = length == 12 ? 0
+                              : length == 2  ? BAFIROLEN_REFUSED_COUNT_IN_EMPTY_CONTEXT
+                              : length < 12  ? BAFIROLEN_REFUSED_PAST_SECTION
+                                             : BAFIROLEN_REFUSED_CONTEXT_LENGTH;
+        m[21] = length;
+        read_as("a section of another length", m, 58, 0, q, number, 0);
+        same("a section of another length", bafirolen_header_number(m, 58, 0), number);
+        same("a section of another length", bafirolen_header_position(m, 58, 0), length == 12 ? 58 : 0);
+        if (length != 12) {
+            read_as("a section of another length, nothing behind it", m, 22u + length, 0, q, number, 0);
+        }
+        read_as("a section of another length, cut", m, 21u + length, 0, q, BAFIROLEN_REFUSED_SHORTAGE, 22u + length);
+    }
 }
 
 /* numbers for which, mode and has_max that name nothing: some of them have the lowest 8 or 16 bits of one that does */
@@ -257,6 +296,7 @@ int main(void)
     sections();
     key_sections();
     find();
+    section_lengths();
     unknown_versions();
     unknown_modes();
     unknown_maxima();

@@ -156,6 +156,21 @@ static void read_cuts(const uint8_t *m, size_t n, size_t np, size_t nk)
     }
 }
 
+/* a header with every length of its context section up to one more than is right, cut where the section then ends: where a part
+ * would end past it, no byte there is looked at */
+static void read_past_section(const uint8_t *header, size_t n, size_t section, size_t np, size_t nk)
+{
+    uint8_t m[sizeof V2], length;
+    memcpy(m, header, n);
+    for (length = 1; length <= header[section + 1] + 1; length++) {
+        const size_t end = section + 2 + length;
+        m[section + 1] = length;
+        read_body(m, end, BAFIROLEN_EITHER, BAFIROLEN_TOLERANT, 4 * np, 6 * nk);
+        read_parts(m, end, section, 4 * np, 6 * nk);
+        authenticate(m, end, section);
+    }
+}
+
 /* a header that was read, written again into exactly its length and into one byte less */
 static void write_again(const uint8_t *m, size_t n)
 {
@@ -228,6 +243,8 @@ int main(void)
 {
     read_cuts(H, sizeof H, 1, 1);
     read_cuts(V2, sizeof V2, 2, 2);
+    read_past_section(H, sizeof H, 20, 1, 1);
+    read_past_section(V2, sizeof V2, 35, 2, 2);
     write_again(H, sizeof H);
     write_again(V2, sizeof V2);
     write_parts();

@@ -133,7 +133,7 @@ pub struct BafirolenWritten {
 
 /// The declarations here are those of an archive whose [`bafirolen_version`]
 /// answers this.
-pub const VERSION: u32 = 2;
+pub const VERSION: u32 = 3;
 
 extern "C" {
     /// Which declarations the archive was made for.

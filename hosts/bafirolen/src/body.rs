@@ -122,13 +122,14 @@ impl fmt::Debug for Body<'_, '_> {
 /// - 5 [`MessageType`](Refusal::MessageType), in version 1;
 /// - 6 [`UnknownSuite`](Refusal::UnknownSuite);
 /// - 7 [`SuiteOfOtherVersion`](Refusal::SuiteOfOtherVersion);
+/// - 32 [`PastSection`](Refusal::PastSection), of the count and of the length
+///   and bytes of each key and value in turn;
 /// - 8 [`CountInEmptyContext`](Refusal::CountInEmptyContext);
 /// - 21 [`OldEmptyContext`](Refusal::OldEmptyContext), if strict;
 /// - 9 [`NoCountInContext`](Refusal::NoCountInContext);
 /// - of each pair 10 [`KeyNotUtf8`](Refusal::KeyNotUtf8),
-///   11 [`ValueNotUtf8`](Refusal::ValueNotUtf8),
-///   12 [`KeySeenBefore`](Refusal::KeySeenBefore) and
-///   13 [`PairsTooLong`](Refusal::PairsTooLong);
+///   11 [`ValueNotUtf8`](Refusal::ValueNotUtf8) and
+///   12 [`KeySeenBefore`](Refusal::KeySeenBefore);
 /// - 14 [`ContextLength`](Refusal::ContextLength);
 /// - 15 [`TooManyKeys`](Refusal::TooManyKeys), if there is a maximum;
 /// - of each key 16 [`ProviderIdNotUtf8`](Refusal::ProviderIdNotUtf8);

@@ -15,12 +15,13 @@ use crate::{Place, Refusal};
 /// In the order of the tests:
 /// - 1 [`NotAddressable`](Refusal::NotAddressable);
 /// - 2 [`Shortage`](Refusal::Shortage), where the next field is not all there;
+/// - 32 [`PastSection`](Refusal::PastSection), of the count and of the length
+///   and bytes of each key and value in turn;
 /// - 8 [`CountInEmptyContext`](Refusal::CountInEmptyContext);
 /// - 9 [`NoCountInContext`](Refusal::NoCountInContext);
 /// - of each pair 10 [`KeyNotUtf8`](Refusal::KeyNotUtf8),
-///   11 [`ValueNotUtf8`](Refusal::ValueNotUtf8),
-///   12 [`KeySeenBefore`](Refusal::KeySeenBefore) and
-///   13 [`PairsTooLong`](Refusal::PairsTooLong);
+///   11 [`ValueNotUtf8`](Refusal::ValueNotUtf8) and
+///   12 [`KeySeenBefore`](Refusal::KeySeenBefore);
 /// - 14 [`ContextLength`](Refusal::ContextLength);
 /// - 29 [`NotFound`](Refusal::NotFound).
 #[inline]

@@ -48,7 +48,7 @@ macro_rules! refusals {
         }
 
         impl Refusal {
-            /// The refusal's number, 1 to 31 where it is listed.
+            /// The refusal's number, 1 to 32 where it is listed.
             #[must_use]
             pub const fn number(&self) -> u32 {
                 match self {
@@ -106,7 +106,7 @@ refusals! {
     11 ValueNotUtf8 "value not UTF-8",
     12 KeySeenBefore "key seen before",
     13 PairsTooLong "the pairs take 65,534 bytes or more",
-    14 ContextLength "the pairs' end differs from the stored length",
+    14 ContextLength "the pairs end before the section does",
     15 TooManyKeys "key count above the maximum",
     16 ProviderIdNotUtf8 "provider ID not UTF-8",
     17 ContentType "content type not 01 or 02",
@@ -124,6 +124,7 @@ refusals! {
     29 NotFound "no pair has the key",
     30 TagLength "tag not 16 bytes",
     31 RequiredTableOrPlace "required table of odd length, or a place outside its text",
+    32 PastSection "part of a context section that would end past the section",
 }
 
 impl Refusal {

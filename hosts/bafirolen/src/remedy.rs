@@ -27,10 +27,9 @@ pub enum Remedy {
     /// the start again: fetch what is at hand, or twice as much, rather than
     /// just up to it. With that many bytes the answer may be another refusal,
     /// a further shortage among them. Set a limit: lengths in a message may
-    /// claim what never comes; a part of a context may be said to end after
-    /// its section, which is refused by 14, or by an earlier test, once the
-    /// bytes are there; and a message above 4,294,967,295 bytes is refused
-    /// by 1.
+    /// claim what never comes; and a message above 4,294,967,295 bytes is
+    /// refused by 1. No part of a context is waited for past its section: one
+    /// that is said to end there is refused by 32, and not mended by any byte.
     Wait {
         /// How many bytes the message would have to have.
         position: u64,

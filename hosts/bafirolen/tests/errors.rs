@@ -1,5 +1,5 @@
 //! The functions' lists of refusals under 'Errors' are those that the
-//! comparisons hold each operation to, in document 01's order of tests.
+//! comparisons hold each operation to, in the documents' order of tests.
 //! (`copy_value` and `find_bytes` refer to `find_value` for theirs, and the
 //! first adds 28.)
 

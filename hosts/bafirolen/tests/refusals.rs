@@ -6,7 +6,7 @@ use std::error::Error;
 const README: &str = include_str!("../../../README.md");
 
 /// Every refusal in the order of its number.
-const ALL: [Refusal; 31] = [
+const ALL: [Refusal; 32] = [
     Refusal::NotAddressable,
     Refusal::Shortage { position: 0 },
     Refusal::UnknownVersion,
@@ -38,6 +38,7 @@ const ALL: [Refusal; 31] = [
     Refusal::NotFound,
     Refusal::TagLength,
     Refusal::RequiredTableOrPlace,
+    Refusal::PastSection,
 ];
 
 #[test]
@@ -71,7 +72,7 @@ fn numbers_and_positions_are_kept() {
         assert_eq!((other.number(), other.position()), (number, 7));
         assert_eq!(matches!(other, Refusal::Unlisted { .. }), number != 2);
     }
-    for number in [0, 32, 256, 258, u32::MAX] {
+    for number in [0, 33, 256, 258, u32::MAX] {
         for position in [0, 9] {
             let refusal = Refusal::from_number(number, position);
             assert_eq!(refusal, Refusal::Unlisted { number, position });
@@ -93,7 +94,7 @@ fn each_has_its_remedy() {
     }
     let far = Refusal::Shortage { position: 1 << 32 };
     assert_eq!(far.remedy(), Remedy::Wait { position: 1 << 32 });
-    assert_eq!(Refusal::from_number(32, 5).remedy(), Remedy::Reject);
+    assert_eq!(Refusal::from_number(33, 5).remedy(), Remedy::Reject);
 }
 
 #[test]
@@ -108,16 +109,21 @@ fn a_refusal_is_an_error() {
     assert_eq!(refused.to_string(), "refusal 29: no pair has the key");
 }
 
-/// Document 01: 00 04 00 01 00 05 is a shortage that no bytes can mend. Until
-/// the position is reached the answer is the same, and then it is 14.
+/// Document 02: in 00 04 00 01 00 05 the key would end past the section, which
+/// no bytes can mend. They are waited for up to the section's end, and not
+/// beyond it.
 #[test]
-fn a_shortage_that_is_waited_for() {
+fn what_goes_past_its_section_is_not_waited_for() {
     let whole = b"\x00\x04\x00\x01\x00\x05abcde\x00\x00";
     let answer = |length: usize| find_value(&whole[..length], 0, b"abcde").unwrap_err();
-    for length in 6..11 {
-        assert_eq!(answer(length), Refusal::Shortage { position: 11 });
+    for length in 0..2 {
+        assert_eq!(answer(length), Refusal::Shortage { position: 2 });
     }
-    assert_eq!(answer(11), Refusal::Shortage { position: 13 });
-    assert_eq!(answer(12), Refusal::Shortage { position: 13 });
-    assert_eq!(answer(13), Refusal::ContextLength);
+    for length in 2..6 {
+        assert_eq!(answer(length), Refusal::Shortage { position: 6 });
+    }
+    for length in 6..=13 {
+        assert_eq!(answer(length), Refusal::PastSection);
+        assert_eq!(answer(length).remedy(), Remedy::Reject);
+    }
 }

@@ -13,9 +13,29 @@ use generator::random::Random;
 use generator::tables::{lend, lend_parts, Lent};
 use generator::{Key, Pair};
 
-/// How many answers a call of `pairs` counts, and one of `keys`.
-pub const USES_OF_PAIRS: u64 = 2 + 1 + 1 + 2 * 5;
+/// How many answers a call of `pairs` counts, of reads and of writes, and one
+/// of `keys`.
+pub const READS_OF_PAIRS: u64 = 2 + 1 + 2 * 4;
+pub const WRITES_OF_PAIRS: u64 = 1 + 2;
+pub const USES_OF_PAIRS: u64 = READS_OF_PAIRS + WRITES_OF_PAIRS;
 pub const USES_OF_KEYS: u64 = 1 + 1 + 2 * 5;
+
+/// What every read answers, and every write.
+#[derive(Clone, Copy)]
+pub struct Wanted {
+    pub read: u32,
+    pub write: u32,
+}
+
+impl From<u32> for Wanted {
+    /// The same of both.
+    fn from(number: u32) -> Wanted {
+        Wanted {
+            read: number,
+            write: number,
+        }
+    }
+}
 
 /// Writes fields whose pairs and keys are lent by tables.
 pub fn write_body(fields: &Fields, lent: &Lent, out: &[u8]) -> (Answer<usize>, Vec<u8>) {
@@ -54,8 +74,13 @@ pub fn parts_of_keys(keys: &[Key]) -> impl Iterator<Item = &[u8]> {
 }
 
 /// Bodies of both versions, read by every reader of the version and written;
-/// each answers `wanted`.
-fn bodies(random: &mut Random, answers: &mut Answers, pairs: &[Pair], keys: &[Key], wanted: u32) {
+/// each answers what is wanted of it.
+fn bodies(
+    random: &mut Random,
+    answers: &mut Answers,
+    (pairs, keys): (&[Pair], &[Key]),
+    wanted: Wanted,
+) {
     for version in [1, 2] {
         let mut fields = plain(version);
         fields.pairs = pairs.to_vec();
@@ -65,37 +90,47 @@ fn bodies(random: &mut Random, answers: &mut Answers, pairs: &[Pair], keys: &[Ke
         for request in requests(version) {
             let (answer, tables) =
                 reads::read_header_body(&image, 0, request, &pair_table, &key_table);
-            answers.met(&answer, wanted);
-            if wanted == 0 {
+            answers.met(&answer, wanted.read);
+            if wanted.read == 0 {
                 parts_are(0, &image, &tables.pairs, parts_of_pairs(pairs));
                 parts_are(0, &image, &tables.keys, parts_of_keys(keys));
             }
         }
         let lent = lend(random, pairs, keys);
         let (answer, out) = write_body(&fields, &lent, &vec![0; image.len()]);
-        answers.met(&answer, wanted);
-        assert!(wanted != 0 || out == image, "the image of the body");
+        answers.met(&answer, wanted.write);
+        assert!(wanted.write != 0 || out == image, "the image of the body");
     }
 }
 
-/// The section and bodies of pairs, read and written: each answers `wanted`.
-pub fn pairs(random: &mut Random, answers: &mut Answers, pairs: &[Pair], wanted: u32) {
+/// The section and bodies of pairs, read and written: each answers what is
+/// wanted of it.
+pub fn pairs(
+    random: &mut Random,
+    answers: &mut Answers,
+    pairs: &[Pair],
+    wanted: impl Into<Wanted>,
+) {
+    let wanted = wanted.into();
     let image = section_of(pairs).bytes;
     let table = vec![3; 4 * pairs.len()];
     for mode in [Mode::Tolerant, Mode::Strict] {
         let (answer, table) = reads::read_aad_section(&image, 0, mode, &table);
-        answers.met(&answer, wanted);
-        if wanted == 0 {
+        answers.met(&answer, wanted.read);
+        if wanted.read == 0 {
             parts_are(0, &image, &table, parts_of_pairs(pairs));
         }
     }
     let lent = lend(random, pairs, &[]);
     let out = vec![0; image.len()];
     let (answer, out) = writes::write_aad_section(&lent.text, &lent.pairs, &out);
-    answers.met(&answer, wanted);
-    assert!(wanted != 0 || out == image, "the image of the section");
-    answers.met(&all_required(random, pairs), wanted);
-    bodies(random, answers, pairs, &[], wanted);
+    answers.met(&answer, wanted.write);
+    assert!(
+        wanted.write != 0 || out == image,
+        "the image of the section"
+    );
+    answers.met(&all_required(random, pairs), wanted.read);
+    bodies(random, answers, (pairs, &[]), wanted);
 }
 
 /// All pairs as what is only authenticated, their keys required in any order.
@@ -168,5 +203,5 @@ pub fn keys(random: &mut Random, answers: &mut Answers, keys: &[Key], wanted: u3
     let (answer, out) = writes::write_encrypted_data_keys_section(&lent.text, &lent.keys, &out);
     answers.met(&answer, wanted);
     assert!(wanted != 0 || out == image, "the image of the section");
-    bodies(random, answers, &[], keys, wanted);
+    bodies(random, answers, (&[], keys), wanted.into());
 }

@@ -7,6 +7,7 @@
 #![forbid(unsafe_code)]
 
 pub mod answers;
+pub mod both;
 pub mod every;
 pub mod expected;
 pub mod guarded;

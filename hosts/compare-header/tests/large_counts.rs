@@ -1,5 +1,6 @@
-//! Counts of pairs and keys with far fewer bytes behind them than they need:
-//! a shortage where the bytes end, whatever is counted and whatever the table.
+//! Counts of pairs and keys with far fewer bytes behind them than they need: of
+//! keys a shortage where the bytes end, of pairs a part that goes past its
+//! section, whatever is counted and whatever the table.
 
 use bafirolen::Mode;
 use compare_header::answers::Answers;
@@ -100,15 +101,17 @@ fn of_keys_in_bodies() {
 /// A section of a count, of which only these pairs and a few zeros are there;
 /// the stored length is that of all of them. The zeros are one empty pair,
 /// and then the same again.
-fn section_short(pairs: &[Pair], count: u16, zeros: usize) -> (Vec<u8>, (u32, u64)) {
+fn section_short(pairs: &[Pair], count: u16, zeros: usize) -> (Vec<u8>, u32) {
     let mut image = section_with(pairs, 0, count);
     let end = image.bytes.len();
     image.bytes.resize(end + zeros, 0);
     let length = image.bytes.len() as u16 - 2;
     image.bytes[..2].copy_from_slice(&length.to_be_bytes());
-    let wanted = match zeros {
-        8.. => (12, 0),
-        _ => (2, (end + zeros / 2 * 2 + 2) as u64),
+    let wanted = match (pairs.len(), zeros) {
+        // No byte of a pair is there, and the length is 2.
+        (0, 0) => 8,
+        (_, 8..) => 12,
+        _ => 32,
     };
     (image.bytes, wanted)
 }
@@ -119,40 +122,35 @@ fn of_pairs() {
     for (count, zeros) in COUNTS.into_iter().flat_map(|c| BYTES.map(move |b| (c, b))) {
         for there in [0, 1, 5] {
             let pairs = agreeing(1, 1, there);
-            let (section, (number, position)) = section_short(&pairs, count, zeros);
-            // No byte of a pair is there, and the length is 2.
-            let empty = there == 0 && zeros == 0;
-            let (number, position) = if empty { (8, 0) } else { (number, position) };
+            let (section, number) = section_short(&pairs, count, zeros);
             for length in TABLES {
                 let table = vec![3; length];
                 for mode in [Mode::Tolerant, Mode::Strict] {
                     let (answer, _) = reads::read_aad_section(&section, 0, mode, &table);
-                    answers.expected(&answer, number, position);
+                    answers.met(&answer, number);
                 }
             }
             let answer = reads::find_value(&section, 0, b"a0");
-            answers.expected(&answer, number, position);
+            answers.met(&answer, number);
             let (answer, _) =
                 writes::write_only_authenticated(&section, 0, b"a0", &[0, 2], &[7; 10]);
-            answers.expected(&answer, number, position);
-            in_bodies(&mut answers, &section, number, position);
+            answers.met(&answer, number);
+            in_bodies(&mut answers, &section, number);
         }
     }
     // Eight of the section, and eight of bodies; 13 of the 21 hold a second empty pair.
     let each = 16 * COUNTS.len() as u64;
-    let wanted = [(2, (3 * 8 - 1) * each), (8, each), (12, 3 * 13 * each)];
+    let wanted = [(8, each), (12, 3 * 13 * each), (32, (3 * 8 - 1) * each)];
     answers.assert_are("context sections with large counts", &wanted);
 }
 
-fn in_bodies(answers: &mut Answers, section: &[u8], number: u32, position: u64) {
+fn in_bodies(answers: &mut Answers, section: &[u8], number: u32) {
     for version in [1, 2] {
         let mut message = front(&plain(version)).bytes;
-        let before = message.len() as u64;
         message.extend_from_slice(section);
-        let position = if number == 2 { before + position } else { 0 };
         for request in requests(version) {
             let (answer, _) = reads::read_header_body(&message, 0, request, &[3; 8], &[]);
-            answers.expected(&answer, number, position);
+            answers.met(&answer, number);
         }
     }
 }
@@ -178,34 +176,35 @@ fn with_lengths_beyond() {
     answers.assert_are("sections cut, with large counts", &[(2, sections)]);
 }
 
-/// 300 pairs, of which the stored length covers one: those behind it are read
-/// on as the count says, and where they are enough, the end is wrong.
+/// 300 pairs, of which the stored length covers one and the next one's first
+/// length: nothing behind it is read, however many are counted. Where one is
+/// counted, the section ends behind it.
 #[test]
 fn with_pairs_behind_the_section() {
     let mut answers = Answers::default();
     let mut fields = plain(1);
     fields.pairs = agreeing(1, 3, 300);
     let rows = [
-        (299, 14),
-        (300, 14),
-        (301, 2),
-        (0x7FFF, 2),
-        (0x8000, 2),
-        (0xFFFF, 2),
+        (1, 14),
+        (2, 32),
+        (299, 32),
+        (300, 32),
+        (301, 32),
+        (0x7FFF, 32),
+        (0x8000, 32),
+        (0xFFFF, 32),
     ];
     for (count, number) in rows {
         let section = section_with(&fields.pairs, 14, count).bytes;
-        let end = section.len() as u64;
-        let short = |before| if number == 2 { before + end + 2 } else { 0 };
         for length in TABLES {
             let table = vec![3; length];
             let (answer, _) = reads::read_aad_section(&section, 0, Mode::Tolerant, &table);
-            answers.expected(&answer, number, short(0));
+            answers.met(&answer, number);
         }
         let mut body = front(&fields).bytes;
         body.extend_from_slice(&section);
-        assert_eq!(reads::host_answer(&body, 0), (number, short(20)));
+        assert_eq!(reads::host_answer(&body, 0), (number, 0));
         answers.told(number);
     }
-    answers.assert_are("pairs behind their section", &[(2, 4 * 4), (14, 2 * 4)]);
+    answers.assert_are("pairs behind their section", &[(14, 4), (32, 7 * 4)]);
 }

@@ -54,8 +54,8 @@ fn lengths_that_agree_in_32_bits() {
     answers.assert_are("finds of keys above 4 GiB", &[(0, 4), (29, 4)]);
 }
 
-/// Just the longest key, and those a byte or more away from it; of 65,535
-/// bytes no section takes one.
+/// Just the longest key, and those a byte or more away from it; a longer one
+/// goes past any section.
 #[test]
 fn the_longest_key() {
     let mut answers = Answers::default();
@@ -71,10 +71,10 @@ fn the_longest_key() {
     }
     for length in [LONGEST_KEY + 1, 65_534, 65_535] {
         let pairs = [(vec![b'k'; length], Vec::new())];
-        every::find(&mut answers, &pairs, &vec![b'k'; length], 13);
-        every::find(&mut answers, &pairs, b"k", 13);
+        every::find(&mut answers, &pairs, &vec![b'k'; length], 32);
+        every::find(&mut answers, &pairs, b"k", 32);
     }
-    let wanted = [(0, 2), (13, 6), (29, 14)];
+    let wanted = [(0, 2), (29, 14), (32, 6)];
     answers.assert_are("finds around the longest key", &wanted);
 }
 

@@ -3,7 +3,8 @@
 //! bits don't keep.
 
 use compare_header::answers::Answers;
-use compare_header::every::{self, write_body, USES_OF_KEYS, USES_OF_PAIRS};
+use compare_header::every::{self, write_body, Wanted, USES_OF_KEYS, USES_OF_PAIRS};
+use compare_header::every::{READS_OF_PAIRS, WRITES_OF_PAIRS};
 use compare_header::writes;
 use generator::large::plain;
 use generator::random::Random;
@@ -71,8 +72,9 @@ fn every_part_of_several_keys() {
     answers.assert_are("keys with all parts of 65,535 bytes", &wanted);
 }
 
-/// A pair with such a key or value takes too many bytes (13), and bytes that
-/// aren't UTF-8 are refused before (10, 11).
+/// A pair with such a key or value takes too many bytes to be written (13), and
+/// bytes that aren't UTF-8 are refused before (10, 11). Read, it goes past its
+/// section (32), whatever its bytes are.
 #[test]
 fn of_pairs() {
     let mut random = Random::new(163);
@@ -84,32 +86,35 @@ fn of_pairs() {
                 true => [(b"a".to_vec(), b"b".to_vec()), (long.to_vec(), Vec::new())],
                 false => [(b"a".to_vec(), b"b".to_vec()), (Vec::new(), long.to_vec())],
             };
-            let (bad, good) = match length {
-                32_768 => (if key_is_long { 10 } else { 11 }, 0),
-                65_536 => (27, 27),
-                _ => (if key_is_long { 10 } else { 11 }, 13),
-            };
+            let not_text = if key_is_long { 10 } else { 11 };
             let pairs = pair(&long);
             long[length - 1] = 0xFF;
-            for (pairs, wanted) in [(pairs, good), (pair(&long), bad)] {
-                match wanted {
-                    27 => write(&mut random, &mut answers, &pairs, 27),
-                    _ => every::pairs(&mut random, &mut answers, &pairs, wanted),
-                }
+            for (pairs, write) in [(pairs, 13), (pair(&long), not_text)] {
+                let wanted = match (length, write) {
+                    (65_536, _) => {
+                        write_alone(&mut random, &mut answers, &pairs, 27);
+                        continue;
+                    }
+                    (32_768, 13) => Wanted::from(0),
+                    (32_768, _) => Wanted::from(write),
+                    _ => Wanted { read: 32, write },
+                };
+                every::pairs(&mut random, &mut answers, &pairs, wanted);
             }
         }
     }
     let wanted = [
         (0, 2 * USES_OF_PAIRS),
-        (10, 4 * USES_OF_PAIRS),
-        (11, 4 * USES_OF_PAIRS),
-        (13, 2 * 3 * USES_OF_PAIRS),
+        (10, USES_OF_PAIRS + 3 * WRITES_OF_PAIRS),
+        (11, USES_OF_PAIRS + 3 * WRITES_OF_PAIRS),
+        (13, 2 * 3 * WRITES_OF_PAIRS),
         (27, 4 * 3),
+        (32, 2 * 2 * 3 * READS_OF_PAIRS),
     ];
     answers.assert_are("pairs with parts of up to 65,536 bytes", &wanted);
 }
 
-fn write(random: &mut Random, answers: &mut Answers, pairs: &[Pair], wanted: u32) {
+fn write_alone(random: &mut Random, answers: &mut Answers, pairs: &[Pair], wanted: u32) {
     let lent = lend(random, pairs, &[]);
     let out = vec![0x11; 70_000];
     let (answer, _) = writes::write_aad_section(&lent.text, &lent.pairs, &out);

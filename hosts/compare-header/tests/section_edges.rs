@@ -129,7 +129,7 @@ fn the_longest_pairs() {
             let rest = total - pairs_length(&pairs) - 4;
             let key = rest.min(9);
             pairs.push((vec![b'k'; key], text_of(&mut random, rest - key)));
-            let wanted = if total < 65_534 { 0 } else { 13 };
+            let wanted = if total < 65_534 { 0 } else { 32 };
             // No stored length can be right above the limit.
             let length = (2 + total).min(65_535) as u16;
             let image = section_with(&pairs, length, pairs.len() as u16).bytes;

@@ -85,6 +85,8 @@ pub fn read_bytes(message: &[u8], start: u64, n: u32) -> LeafPart {
     }))
 }
 
-pub fn read_entry(message: &[u8], start: u64) -> LeafPart {
-    part(operation(message, start, reference::read_entry))
+pub fn read_entry(message: &[u8], start: u64, end: Option<u64>) -> LeafPart {
+    part(operation(message, start, |m, s| {
+        reference::read_entry(m, s, end)
+    }))
 }

@@ -38,8 +38,8 @@ fn agree(message: &[u8], start: u64, lengths: &[u32]) -> u64 {
         "4 bytes at {start} of {len}"
     );
     assert_eq!(
-        leaves::read_entry(message, start),
-        records::read_entry(message, start),
+        leaves::read_entry(message, start, None),
+        records::read_entry(message, start, None),
         "entry at {start} of {len}"
     );
     for &n in lengths {
@@ -124,10 +124,10 @@ fn entries_whole_and_cut() {
             end + 1 + cut,
         ] {
             let message = &noise[..kept];
-            let ours = leaves::read_entry(message, start as u64);
+            let ours = leaves::read_entry(message, start as u64, None);
             assert_eq!(
                 ours,
-                records::read_entry(message, start as u64),
+                records::read_entry(message, start as u64, None),
                 "entry of {len} bytes at {start} of {kept}"
             );
             accepted += u64::from(ours.refusal == 0);

@@ -37,9 +37,13 @@ fn reads_at_every_edge() {
 
 #[test]
 fn entries_read() {
-    let count = rows::entries(|message, start| place(leaves::read_entry(message, start)));
+    let read = |message: &[u8], start, end| place(leaves::read_entry(message, start, end));
+    let count = rows::entries(read);
     assert_eq!(count, 7);
     compared(count, "rows of entries read");
+    let count = rows::entries_within(read);
+    assert_eq!(count, 32);
+    compared(count, "rows of entries read within an end");
 }
 
 /// The leaf says only whether it wrote.

@@ -70,15 +70,15 @@ fn an_input_as_long_as_the_buffer_and_longer() {
     compared(5, "listings of long inputs");
 }
 
-/// Pairs of 65,534 bytes, refused by 13 wherever they are read, don't fit the
-/// buffer: the program says that bytes are wanted.
+/// Pairs of 65,534 bytes, which go past any section (32), don't fit the buffer:
+/// the program says that bytes are wanted.
 #[test]
 fn pairs_that_take_too_many_bytes() {
     let mut message = small(0, 0).image(Form::Today).bytes;
     message.truncate(20);
     message.extend([0xFF, 0xFF, 0, 1, 0, 0, 0xFF, 0xFA]);
     message.resize(20 + 8 + 65_530, b'a');
-    assert_eq!(reference::host_answer(&message, 0), (13, 0));
+    assert_eq!(reference::host_answer(&message, 0), (32, 0));
     listed("pairs of 65,534 bytes", &message, &refused(2, 20 + 65_537));
     compared(1, "listings of too many bytes of pairs");
 }

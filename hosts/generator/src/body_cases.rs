@@ -159,17 +159,13 @@ fn faulty(random: &mut Random) -> BodyCase {
     } else {
         sections::Kind::Intact
     };
-    let mut section = sections::build(random, kind);
+    let section = sections::build(random, kind);
     let key_kind = match random.below(12) {
         0 => random.pick(&key_cases::KINDS),
         1 => key_cases::Kind::BadProvider,
         _ => key_cases::Kind::Intact,
     };
     let keys = key_cases::build(random, key_kind);
-    if keys.open && kind == sections::Kind::PastEnd {
-        // The byte behind may not be ASCII now.
-        section.verdict = Verdict::Open;
-    }
     fields.pairs = section.pairs.clone();
     fields.keys = keys.keys.clone();
 

@@ -1,7 +1,7 @@
 //! Seeded generation of message headers and their parts, intact and damaged.
 //!
-//! Every function is determined by its seed; `faults` and `rows`, which are
-//! written by hand, have none. Images are built here, by concatenation, so
+//! Every function is determined by its seed; `faults`, `rows` and
+//! `section_ends`, which are written by hand, have none. Images are built here, by concatenation, so
 //! that they depend on no codec. Where the damage decides the answer, the case
 //! says which answer is expected.
 #![forbid(unsafe_code)]
@@ -21,6 +21,7 @@ pub mod only_cases;
 pub mod random;
 pub mod rows;
 pub mod section_cases;
+pub mod section_ends;
 pub mod sections;
 pub mod surroundings;
 pub mod table_faults;

@@ -15,6 +15,7 @@ pub enum Kind {
     BitFlips,
     LengthUp,
     LengthDown,
+    EndsEarly,
     CountUp,
     CountDown,
     EntryLength,
@@ -29,12 +30,13 @@ pub enum Kind {
     Noise,
 }
 
-const LIGHT: [Kind; 15] = [
+const LIGHT: [Kind; 16] = [
     Kind::Intact,
     Kind::OldForm,
     Kind::BitFlips,
     Kind::LengthUp,
     Kind::LengthDown,
+    Kind::EndsEarly,
     Kind::CountUp,
     Kind::CountDown,
     Kind::EntryLength,
@@ -57,7 +59,7 @@ pub fn kind(random: &mut Random) -> Kind {
     }
 }
 
-/// What a section's own bytes decide, given at least one ASCII byte behind.
+/// What a section's own bytes decide, given at least one byte behind.
 #[derive(Clone, Copy, Debug, PartialEq, Eq)]
 pub enum Verdict {
     Accepted,
@@ -104,34 +106,32 @@ pub fn stretch(random: &mut Random, pairs: &mut Vec<Pair>, total: usize) -> usiz
     at
 }
 
-/// Pairs that take 65,534 bytes or a few more, in any order. A fault in the
-/// pair that passes the limit is met before 13; one in a later pair is not.
+/// Pairs that take 65,534 bytes or a few more, in any order. No stored length
+/// can be right, so one of their parts goes past the section. A fault in that
+/// part or a later one is not met before 32; one in an earlier pair is.
 fn too_long(random: &mut Random) -> Section {
-    let total = 65_534
-        + if random.one_in(2) {
-            0
-        } else {
-            random.index(30)
-        };
+    let more = random.index(30);
+    let total = random.pick(&[65_534, 65_534 + more]);
     let mut pairs = some_pairs(random);
-    let mut number = 13;
+    let mut number = 32;
+    // Any length above 2 leads into the pairs.
+    let any = random.between(3, 65_535) as u16;
+    let mut length = random.pick(&[65_535, any]);
     match random.below(4) {
         0 => {
             let key = pairs[random.index(pairs.len())].0.clone();
             let rest = 65_534 - pairs_length(&pairs) - 4 - key.len();
             pairs.push((key, text_of(random, rest)));
-            number = 12;
         }
         1 => {
             stretch(random, &mut pairs, total);
             let passing = passing(&pairs);
             pairs[passing].1.push(0x80);
-            number = 11;
         }
         2 => {
             stretch(random, &mut pairs, total);
-            let key = pairs[random.index(pairs.len())].0.clone();
-            pairs.push((key, Vec::new()));
+            pairs.insert(0, (bad_text(random), Vec::new()));
+            (length, number) = (65_535, 10);
         }
         _ => {
             stretch(random, &mut pairs, total);
@@ -140,12 +140,6 @@ fn too_long(random: &mut Random) -> Section {
             }
         }
     }
-    // No stored length can be right; any above 2 leads into the pairs.
-    let length = if random.one_in(2) {
-        65_535
-    } else {
-        random.between(3, 65_535) as u16
-    };
     let image = section_with(&pairs, length, pairs.len() as u16);
     Section {
         image,
@@ -169,91 +163,121 @@ pub fn build(random: &mut Random, kind: Kind) -> Section {
         Kind::TooLong => return too_long(random),
         _ => some_pairs(random),
     };
-    let mut verdict = Verdict::Accepted;
-    match kind {
-        Kind::Duplicate => {
-            duplicate(random, &mut pairs);
-            verdict = Verdict::Refused(12);
-        }
-        Kind::BadKey => {
-            let at = random.index(pairs.len());
-            pairs[at].0 = bad_text(random);
-            verdict = Verdict::Refused(10);
-        }
-        Kind::BadValue => {
-            let at = random.index(pairs.len());
-            pairs[at].1 = bad_text(random);
-            verdict = Verdict::Refused(11);
-        }
-        Kind::Longest => {
-            stretch(random, &mut pairs, 65_533);
-        }
-        _ => {}
-    }
+    let verdict = spoil_pairs(random, kind, &mut pairs);
     let form = if kind == Kind::OldForm {
         Form::Old
     } else {
         Form::Today
     };
     let mut image = section(&pairs, form);
-    let length = (image.bytes.len() - 2) as u16;
-    let count = pairs.len() as u16;
-    match kind {
-        Kind::OldForm => verdict = Verdict::Old,
-        Kind::BitFlips => {
-            flip_bits(random, &mut image.bytes);
-            verdict = Verdict::Open;
-        }
-        Kind::LengthUp => {
-            image = section_with(&pairs, length + 1, count);
-            verdict = Verdict::Refused(14);
-        }
-        Kind::LengthDown => {
-            image = section_with(&pairs, length - 1, count);
-            verdict = Verdict::Refused(14);
-        }
-        Kind::CountUp => {
-            image = section_with(&pairs, length, count + 1);
-            verdict = Verdict::Open;
-        }
-        Kind::CountDown => {
-            image = section_with(&pairs, length, count - 1);
-            verdict = Verdict::Refused(if count == 1 { 9 } else { 14 });
-        }
-        Kind::EntryLength => {
-            let parts: Vec<_> = pairs.iter().flat_map(|(key, value)| [key, value]).collect();
-            entry_length_off(random, &mut image.bytes, 4, &parts);
-            verdict = Verdict::Open;
-        }
-        Kind::CountInEmpty => {
-            let count = 1 + random.below(65_535) as u16;
-            image = section_with(&[], 2, count);
-            verdict = Verdict::Refused(8);
-        }
-        Kind::NoPairs => {
-            let length = random.pick(&[1, 3, 4, 5, 6, 20, 300]);
-            image = section_with(&[], length, 0);
-            let rest = random.bytes(usize::from(length).saturating_sub(2));
-            image.bytes.extend(rest);
-            verdict = Verdict::Refused(9);
-        }
-        Kind::PastEnd => {
-            // The last value takes in the byte behind, which stays ASCII.
-            let value = pairs[pairs.len() - 1].1.len();
-            let at = image.bytes.len() - value - 2;
-            image.bytes[at..at + 2].copy_from_slice(&(value as u16 + 1).to_be_bytes());
-            verdict = Verdict::Refused(14);
-        }
-        Kind::Noise => {
-            let count = random.length(60);
-            image.bytes = random.bytes(count);
-            verdict = Verdict::Open;
-        }
-        _ => {}
-    }
+    let verdict = spoil_image(random, kind, &pairs, &mut image).unwrap_or(verdict);
     Section {
         image,
         pairs,
         verdict,
     }
+}
+
+/// What is wrong with the pairs themselves.
+fn spoil_pairs(random: &mut Random, kind: Kind, pairs: &mut Vec<Pair>) -> Verdict {
+    match kind {
+        Kind::Duplicate => {
+            duplicate(random, pairs);
+            Verdict::Refused(12)
+        }
+        Kind::BadKey => {
+            let at = random.index(pairs.len());
+            pairs[at].0 = bad_text(random);
+            Verdict::Refused(10)
+        }
+        Kind::BadValue => {
+            let at = random.index(pairs.len());
+            pairs[at].1 = bad_text(random);
+            Verdict::Refused(11)
+        }
+        Kind::Longest => {
+            stretch(random, pairs, 65_533);
+            Verdict::Accepted
+        }
+        _ => Verdict::Accepted,
+    }
+}
+
+/// What is wrong with how they are stored; none where that is right.
+fn spoil_image(
+    random: &mut Random,
+    kind: Kind,
+    pairs: &[Pair],
+    image: &mut Image,
+) -> Option<Verdict> {
+    let length = (image.bytes.len() - 2) as u16;
+    let count = pairs.len() as u16;
+    match kind {
+        Kind::OldForm => return Some(Verdict::Old),
+        Kind::BitFlips => flip_bits(random, &mut image.bytes),
+        Kind::LengthUp => *image = section_with(pairs, length + 1, count),
+        Kind::LengthDown => {
+            let any = random.between(3, u64::from(length) - 1) as u16;
+            let shorter = random.pick(&[length - 1, any]);
+            *image = section_with(pairs, shorter, count);
+        }
+        Kind::EndsEarly => *image = ends_early(random, pairs, length),
+        Kind::CountUp => *image = section_with(pairs, length, count + 1),
+        Kind::CountDown => *image = section_with(pairs, length, count - 1),
+        Kind::EntryLength => {
+            let parts: Vec<_> = pairs.iter().flat_map(|(key, value)| [key, value]).collect();
+            entry_length_off(random, &mut image.bytes, 4, &parts);
+        }
+        Kind::PastEnd => past_end(random, image),
+        Kind::CountInEmpty => {
+            let count = 1 + random.below(65_535) as u16;
+            *image = section_with(&[], 2, count);
+        }
+        Kind::NoPairs => return Some(without_pairs(random, image)),
+        Kind::Noise => {
+            let count = random.length(60);
+            image.bytes = random.bytes(count);
+        }
+        _ => return None,
+    }
+    Some(stored_wrong(kind, count))
+}
+
+/// What that decides, where the pairs are this many.
+fn stored_wrong(kind: Kind, count: u16) -> Verdict {
+    match kind {
+        Kind::LengthUp | Kind::EndsEarly => Verdict::Refused(14),
+        Kind::CountDown => Verdict::Refused(if count == 1 { 9 } else { 14 }),
+        Kind::LengthDown | Kind::CountUp | Kind::PastEnd => Verdict::Refused(32),
+        Kind::CountInEmpty => Verdict::Refused(8),
+        _ => Verdict::Open,
+    }
+}
+
+/// The stored length goes beyond the pairs, and so do bytes.
+fn ends_early(random: &mut Random, pairs: &[Pair], length: u16) -> Image {
+    let more = 1 + random.length(300);
+    let mut image = section_with(pairs, length + more as u16, pairs.len() as u16);
+    image.bytes.extend(random.bytes(more));
+    image
+}
+
+/// An entry, of any pair, that takes in a byte behind the section, or more.
+fn past_end(random: &mut Random, image: &mut Image) {
+    // Behind the ends of the length, of the section and of the count, each
+    // entry has two: where its bytes start, and where they end.
+    let entry = random.index((image.stops.len() - 3) / 2);
+    let starts = image.stops[3 + 2 * entry] as usize;
+    let more = random.pick(&[0, 0, 1, 2, 300, 65_535]);
+    let length = (image.bytes.len() - starts + 1 + more).min(65_535) as u16;
+    image.bytes[starts - 2..starts].copy_from_slice(&length.to_be_bytes());
+}
+
+/// A count of 0 in a section that isn't empty.
+fn without_pairs(random: &mut Random, image: &mut Image) -> Verdict {
+    let length = random.pick(&[1, 3, 4, 5, 6, 20, 300]);
+    *image = section_with(&[], length, 0);
+    let rest = random.bytes(usize::from(length).saturating_sub(2));
+    image.bytes.extend(rest);
+    Verdict::Refused(if length == 1 { 32 } else { 9 })
 }

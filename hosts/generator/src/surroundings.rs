@@ -14,17 +14,13 @@ pub struct Placed {
 }
 
 /// The image with bytes before and behind, whole. There are at least `behind`
-/// bytes behind it, the first of them ASCII.
+/// bytes behind it.
 pub fn whole(random: &mut Random, image: &Image, behind: usize) -> Placed {
     let before = random.length(40);
     let mut message = random.bytes(before);
     message.extend_from_slice(&image.bytes);
     let count = random.length(40).max(behind);
-    let mut rest = random.bytes(count);
-    if let Some(first) = rest.first_mut() {
-        *first &= 0x7F;
-    }
-    message.extend(rest);
+    message.extend(random.bytes(count));
     let start = before as u64;
     Placed {
         message,

@@ -40,7 +40,16 @@ extern "C" {
 
     pub fn leaf_read_bytes(m: *const u8, m_len: usize, start: u64, n: u32) -> LeafPart;
 
-    pub fn leaf_read_entry(m: *const u8, m_len: usize, start: u64) -> LeafPart;
+    /// Where `has_end` is 0 there is no end, and `end` is not looked at; with
+    /// any other number neither the entry's length nor its bytes may go past
+    /// the place `end`.
+    pub fn leaf_read_entry(
+        m: *const u8,
+        m_len: usize,
+        start: u64,
+        has_end: u32,
+        end: u64,
+    ) -> LeafPart;
 
     /// 1 where the part is UTF-8, 0 where it isn't, 3 where it lies outside m.
     pub fn leaf_is_utf8(m: *const u8, m_len: usize, start: u64, len: u64) -> u8;

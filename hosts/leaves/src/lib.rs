@@ -12,7 +12,7 @@ mod writes;
 
 pub use leaves_sys::{LeafNumber, LeafPart};
 pub use parts::{compare_parts, is_utf8, same_parts};
-pub use reads::{read_bytes, read_entry, read_u16, read_u32, read_u8};
+pub use reads::{read_bytes, read_entry, read_entry_flagged, read_u16, read_u32, read_u8};
 pub use suites::suite_version;
 pub use writes::put_entry;
 

@@ -1,14 +1,10 @@
 //! Reading an encryption context section, and finding a value in one.
 
-use crate::leaves::{part, read_bytes, read_entry, read_u16, Place};
+use crate::leaves::{part, read_bytes, read_entry, read_u16, test_end, Place};
 use crate::refusal::*;
 use crate::seen::Seen;
 use crate::tables::{put_place, NUMBERS_A_PAIR};
 use crate::utf8::is_utf8;
-
-/// All pairs together take fewer bytes than this, so that with their count
-/// they still fit the 16-bit section length.
-pub const PAIRS_LIMIT: u64 = 65_534;
 
 /// Whether the old form of an empty section, 00 02 00 00, is accepted.
 #[derive(Clone, Copy, Debug, PartialEq, Eq)]
@@ -50,19 +46,21 @@ impl Section {
         }
     }
 
-    /// The places of each pair's key and value, in the section's order.
+    /// The places of each pair's key and value, in the section's order. The
+    /// walk has held them against the section's end.
     pub fn places<'a>(&self, message: &'a [u8]) -> impl Iterator<Item = (Place, Place)> + 'a {
         let mut at = self.first_pair;
         (0..self.count).map_while(move |_| {
-            let key = read_entry(message, at).ok()?;
-            let value = read_entry(message, key.end()).ok()?;
+            let key = read_entry(message, at, None).ok()?;
+            let value = read_entry(message, key.end(), None).ok()?;
             at = value.end();
             Some((key, value))
         })
     }
 }
 
-/// All tests of a section but 1 and 22, in order.
+/// All tests of a section but 1 and 22, in order: 2 at the length, the whole
+/// section; 32, 2 of the count; 8; 21 (strict); 9; the pairs'; 14.
 pub(crate) fn walk(message: &[u8], start: u64, mode: Mode) -> Result<Section, Refusal> {
     let (length, body) = read_u16(message, start)?;
     let length = u64::from(length);
@@ -73,8 +71,9 @@ pub(crate) fn walk(message: &[u8], start: u64, mode: Mode) -> Result<Section, Re
             first_pair: body,
         });
     }
-    read_bytes(message, body, length)?;
+    let end = read_bytes(message, body, length)?.end();
     // With length 1 the count's second byte lies past the section.
+    test_end(body, 2, end)?;
     let (count, first_pair) = read_u16(message, body)?;
     if length == 2 {
         if count != 0 {
@@ -92,8 +91,8 @@ pub(crate) fn walk(message: &[u8], start: u64, mode: Mode) -> Result<Section, Re
     if count == 0 {
         return Err(Refusal::of(NO_PAIRS_IN_SECTION));
     }
-    let tail = walk_pairs(message, first_pair, count)?;
-    if tail - body != length {
+    let tail = walk_pairs(message, first_pair, count, end)?;
+    if tail < end {
         return Err(Refusal::of(SECTION_END));
     }
     Ok(Section {
@@ -103,18 +102,19 @@ pub(crate) fn walk(message: &[u8], start: u64, mode: Mode) -> Result<Section, Re
     })
 }
 
-/// The tests of each pair; answers the end of the last. Entries are read on
-/// past the section's end, which only the caller's test 14 notices.
-fn walk_pairs(message: &[u8], first_pair: u64, count: u16) -> Result<u64, Refusal> {
+/// The tests of each pair; answers the end of the last, which is at most the
+/// section's. 32, 2 of the key's length, 32, 2 of its bytes, 10; the same of
+/// the value, 11; 12.
+fn walk_pairs(message: &[u8], first_pair: u64, count: u16, end: u64) -> Result<u64, Refusal> {
     let mut seen = Seen::new();
     let mut at = first_pair;
     for _ in 0..count {
-        let key = read_entry(message, at)?;
+        let key = read_entry(message, at, Some(end))?;
         let key_part = part(message, key);
         if !is_utf8(key_part) {
             return Err(Refusal::of(KEY_NOT_UTF8));
         }
-        let value = read_entry(message, key.end())?;
+        let value = read_entry(message, key.end(), Some(end))?;
         if !is_utf8(part(message, value)) {
             return Err(Refusal::of(VALUE_NOT_UTF8));
         }
@@ -122,15 +122,14 @@ fn walk_pairs(message: &[u8], first_pair: u64, count: u16) -> Result<u64, Refusa
             return Err(Refusal::of(KEY_SEEN));
         }
         at = value.end();
-        if at - first_pair >= PAIRS_LIMIT {
-            return Err(Refusal::of(PAIRS_TOO_LONG));
-        }
     }
     Ok(at)
 }
 
-/// Reads a context section: 1; 2 at the length, the whole section, the count;
-/// 8; 21 (strict); 9; per pair 2, 10, 2, 11, 12, 13; 14; 22.
+/// Reads a context section: 1; 2 at the length, the whole section; 32, 2 of
+/// the count; 8; 21 (strict); 9; per pair 32, 2 of the key's length, 32, 2 of
+/// its bytes, 10, the same of the value, 11, 12; 14; 22. What is there whole
+/// has no shortage inside, so each 2 behind a 32 is never answered.
 pub fn read_aad_section(
     message: &[u8],
     start: u64,
@@ -151,7 +150,7 @@ pub fn read_aad_section(
 
 /// The place of the value under `key` in the section at `start`, read
 /// tolerantly. Keys differ, so there is at most one; any bytes may be asked
-/// for.
+/// for. The section's but 22; 29.
 pub fn find(message: &[u8], start: u64, key: &[u8]) -> Result<Place, Refusal> {
     test_sizes(message, start)?;
     let section = walk(message, start, Mode::Tolerant)?;

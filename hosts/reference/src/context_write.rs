@@ -1,14 +1,17 @@
 //! Writing an encryption context section.
 
-use crate::context::PAIRS_LIMIT;
 use crate::leaves::{put, put_entry};
 use crate::refusal::*;
 use crate::seen::Seen;
 use crate::tables::{test_table, text_part, NUMBERS_A_PAIR};
 use crate::utf8::is_utf8;
 
-/// All tests of the pairs but 28, in order; answers the section's length.
-/// Unlike in reading, 13 is tested once, after every pair's own tests.
+/// All pairs together take fewer bytes than this, so that with their count
+/// they still fit the 16-bit section length.
+pub const PAIRS_LIMIT: u64 = 65_534;
+
+/// All tests of the pairs but 28, in order; answers the section's length. 13
+/// is a writer's alone: what is read has a length that was stored.
 pub(crate) fn test_pairs(text: &[u8], pairs: &[u32]) -> Result<u64, Refusal> {
     let total = test_table(text, pairs, NUMBERS_A_PAIR)?;
     let mut seen = Seen::new();

@@ -32,7 +32,7 @@ impl Section {
         let mut at = self.first_key;
         for entry in keys[..numbers].chunks_exact_mut(2) {
             // The walk has read these entries, so they are there.
-            let Ok(place) = read_entry(message, at) else {
+            let Ok(place) = read_entry(message, at, None) else {
                 return;
             };
             put_place(entry, place);
@@ -42,7 +42,8 @@ impl Section {
 }
 
 /// All tests of a key section but 1 and 23, in order. The maximum is tested
-/// on the count alone, before any key is read.
+/// on the count alone, before any key is read. No length is stored for the
+/// section, so its entries have no end to go past.
 pub(crate) fn walk(message: &[u8], start: u64, max: Option<u64>) -> Result<Section, Refusal> {
     let (count, first_key) = read_u16(message, start)?;
     if max.is_some_and(|max| u64::from(count) > max) {
@@ -50,12 +51,12 @@ pub(crate) fn walk(message: &[u8], start: u64, max: Option<u64>) -> Result<Secti
     }
     let mut at = first_key;
     for _ in 0..count {
-        let provider = read_entry(message, at)?;
+        let provider = read_entry(message, at, None)?;
         if !is_utf8(part(message, provider)) {
             return Err(Refusal::of(PROVIDER_NOT_UTF8));
         }
-        let info = read_entry(message, provider.end())?;
-        at = read_entry(message, info.end())?.end();
+        let info = read_entry(message, provider.end(), None)?;
+        at = read_entry(message, info.end(), None)?.end();
     }
     Ok(Section {
         count: u32::from(count),

@@ -4,7 +4,7 @@
 //! start near 2^64 the position wanted may not fit 64 bits; it then saturates
 //! at 2^64 - 1. The answer stays a shortage, as no message is that long.
 
-use crate::refusal::{Refusal, OUTPUT, TOO_MANY_OR_LONG};
+use crate::refusal::{Refusal, OUTPUT, PAST_SECTION, TOO_MANY_OR_LONG};
 use std::cmp::Ordering;
 
 /// The greatest length an entry can store.
@@ -79,11 +79,28 @@ pub fn read_u32(message: &[u8], start: u64) -> Result<(u32, u64), Refusal> {
     Ok((u32::from_be_bytes(bytes), tail))
 }
 
-/// An entry's bytes; the tail is their end. It reads on past the end of any
-/// section it stands in.
+/// Refusal 32: `n` bytes at `start` would end past `end`, whether or not the
+/// message has them. The sum isn't cut to 64 bits, as no end lies beyond them.
 #[inline]
-pub fn read_entry(message: &[u8], start: u64) -> Result<Place, Refusal> {
+pub(crate) fn test_end(start: u64, n: u64, end: u64) -> Result<(), Refusal> {
+    match start.checked_add(n) {
+        Some(part_end) if part_end <= end => Ok(()),
+        _ => Err(Refusal::of(PAST_SECTION)),
+    }
+}
+
+/// An entry's bytes; the tail is their end. With an end, that of the section
+/// it stands in, neither its length nor its bytes may go past it: 32, 2 of the
+/// length; 32, 2 of the bytes. Without one: 2; 2.
+#[inline]
+pub fn read_entry(message: &[u8], start: u64, end: Option<u64>) -> Result<Place, Refusal> {
+    if let Some(end) = end {
+        test_end(start, 2, end)?;
+    }
     let (length, at) = read_u16(message, start)?;
+    if let Some(end) = end {
+        test_end(at, u64::from(length), end)?;
+    }
     read_bytes(message, at, u64::from(length))
 }
 

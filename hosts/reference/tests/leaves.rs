@@ -33,12 +33,16 @@ fn reads_at_every_edge() {
 
 #[test]
 fn entries() {
-    let read = |bytes: &[u8], start| {
-        read_entry(bytes, start)
+    let read = |bytes: &[u8], start, end| {
+        read_entry(bytes, start, end)
             .map(|place| (place.start, place.len))
             .map_err(refusal)
     };
     report_rows("entries", rows::entries(read), 7);
+    report_rows("entries within an end", rows::entries_within(read), 32);
+    // A sum that 64 bits don't hold lies past every end.
+    let far = read_entry(&[0, 0], u64::MAX - 1, Some(u64::MAX));
+    assert_eq!(far.map_err(refusal), Err((32, 0)));
 }
 
 #[test]

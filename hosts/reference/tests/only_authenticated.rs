@@ -25,7 +25,7 @@ fn empty_contexts_and_parts() {
 #[test]
 fn the_section_is_refused_first() {
     let rows = rows::the_section_is_refused_first(&Reference);
-    report_rows("the section is refused first", rows, 17 * 5 * 2);
+    report_rows("the section is refused first", rows, 20 * 5 * 2);
 }
 
 #[test]

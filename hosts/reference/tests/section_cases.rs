@@ -1,4 +1,4 @@
-//! The scope's cases of context and key sections, one row each.
+//! The papers' cases of context and key sections, one row each.
 
 mod common;
 
@@ -8,13 +8,13 @@ use generator::rows::sections;
 #[test]
 fn sections_at_start_0() {
     let rows = sections::sections_at_start_0(&Reference);
-    report_rows("sections at start 0", rows, 44);
+    report_rows("sections at start 0", rows, 62);
 }
 
 #[test]
 fn the_longest_pairs() {
     let rows = sections::the_longest_pairs(&Reference);
-    report_rows("the longest pairs", rows, 6);
+    report_rows("the longest pairs", rows, 7);
 }
 
 #[test]

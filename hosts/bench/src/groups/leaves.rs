@@ -87,7 +87,7 @@ fn their_end(part: Result<Place, Refusal>) -> u64 {
 /// row without is what not being inlined costs.
 #[inline(never)]
 fn read_entry_called(message: &[u8], start: u64) -> Result<Place, Refusal> {
-    reference::read_entry(message, start)
+    reference::read_entry(message, start, None)
 }
 
 fn entry_reads(table: &mut Table) {
@@ -101,15 +101,32 @@ fn entry_reads(table: &mut Table) {
         message.extend(random.bytes(len));
     }
     let start = |call: usize| starts[call % COUNT];
-    let ours = |call| our_end(leaves::read_entry(black_box(&message), start(call)));
+    let ours = |call| our_end(leaves::read_entry(black_box(&message), start(call), None));
     let times = versus(ours, |call| {
-        their_end(reference::read_entry(black_box(&message), start(call)))
+        their_end(reference::read_entry(
+            black_box(&message),
+            start(call),
+            None,
+        ))
     });
     table.row("entry read", "reference, inlined", times);
     let times = versus(ours, |call| {
         their_end(read_entry_called(black_box(&message), start(call)))
     });
     table.row("entry read", "reference, called", times);
+    // As in a section that ends with the message.
+    let end = || Some(black_box(message.len() as u64));
+    let times = versus(
+        |call| our_end(leaves::read_entry(black_box(&message), start(call), end())),
+        |call| {
+            their_end(reference::read_entry(
+                black_box(&message),
+                start(call),
+                end(),
+            ))
+        },
+    );
+    table.row("entry read, within an end", "reference, inlined", times);
 }
 
 fn entry_writes(table: &mut Table) {

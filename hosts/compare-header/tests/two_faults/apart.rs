@@ -6,7 +6,8 @@ use super::every_pair::number_of;
 const CUT: &str = "what the second looks at is in the bytes that are wanted";
 const LENGTH: &str = "how much the second wants is in the bytes that are wanted";
 
-const EMPTY: &str = "a section of length 2 has no pairs to be cut in";
+const EMPTY: &str = "a section of length 2 has no pairs to end in";
+const ENDS: &str = "a section that ends in its pairs doesn't end behind them";
 
 /// Neighbours that only what they mean keeps apart.
 pub const NAMED: &[(&str, &str, &str)] = &[
@@ -16,10 +17,11 @@ pub const NAMED: &[(&str, &str, &str)] = &[
         "an unknown version is no other",
     ),
     ("6 suite", "7 suite", "an unknown suite is of no version"),
+    ("32 pair count", "8 count", "the length is 1, or 2"),
     ("8 count", "21 old form", "the count is not 0, or 0"),
     ("8 count", "9 no pairs", "the length is 2, or another"),
     ("21 old form", "9 no pairs", "the length is 2, or another"),
-    ("9 no pairs", "2 key 1 length", "a count of 0 has no pairs"),
+    ("9 no pairs", "32 key 1 length", "a count of 0 has no pairs"),
     ("20 framed", "20 non-framed", "there is one content type"),
     ("29 key", "28 output", "there is no value to be too long"),
     ("26 pairs in fours", "26 pair place", "one test"),
@@ -31,6 +33,7 @@ pub const NAMED: &[(&str, &str, &str)] = &[
 
 /// The same of faults that others stand between.
 pub const FARTHER: &[(&str, &str, &str)] = &[
+    ("32 pair count", "21 old form", "the length is 1, or 2"),
     ("8 count", "14 end", "the length is 2, or another"),
     ("21 old form", "14 end", "the length is 2, or another"),
     ("10 key 2", "12 key 2", "key 1 would be refused"),
@@ -46,9 +49,11 @@ pub const FARTHER: &[(&str, &str, &str)] = &[
     ("26 pair place", "12 key 4", "no bytes are there"),
 ];
 
-/// Shortages that leave what the second looks at: the suite data stands
-/// behind the frame length, and a table is held against a count.
+/// Shortages that leave what the second looks at: a section's length decides
+/// of its count, the suite data stands behind the frame length, and a table is
+/// held against a count.
 pub const SEEN: &[(&str, &str)] = &[
+    ("2 whole section", "32 pair count"),
     ("2 suite data", "20 framed"),
     ("2 suite data", "22 pair table"),
     ("2 frame length", "22 pair table"),
@@ -56,10 +61,9 @@ pub const SEEN: &[(&str, &str)] = &[
 ];
 
 fn in_a_pair(name: &str) -> bool {
-    name != "2 key count"
-        && ["2 key ", "2 value "]
-            .iter()
-            .any(|head| name.starts_with(head))
+    ["32 key ", "32 value "]
+        .iter()
+        .any(|head| name.starts_with(head))
 }
 
 /// Why two faults never hold of one request, if they don't.
@@ -74,7 +78,8 @@ pub fn apart(first: &str, second: &str) -> Option<&'static str> {
         // The required table is no part of the message.
         (2, 31) => None,
         (2, _) => Some(CUT),
-        (8 | 21, 2) if in_a_pair(second) => Some(EMPTY),
+        (8 | 21, 32) if in_a_pair(second) => Some(EMPTY),
+        (32, 14) => Some(ENDS),
         _ => NAMED
             .iter()
             .chain(FARTHER)

@@ -60,7 +60,7 @@ impl<D: Draft> Fault<D> {
         draft
     }
 
-    /// What document 01 has for a request in which this is the first fault.
+    /// What the documents have for a request in which this is the first fault.
     fn wanted(&self, draft: &D) -> (u32, u64) {
         match number_of(&self.name) {
             2 => (2, draft.position()),

@@ -1,6 +1,6 @@
 //! Two faults in one request, for every two that an operation lists.
 //!
-//! Each operation has a table, in document 01's order of tests, of its faults
+//! Each operation has a table, in the documents' order of tests, of its faults
 //! and of how each is planted. Whatever two faults a request has, the answer
 //! is the one listed first, with its position; mended, it is the other.
 //!

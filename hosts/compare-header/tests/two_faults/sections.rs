@@ -7,12 +7,13 @@ use generator::faults::{Area, ReadDraft};
 
 pub type Faults = Vec<Fault<ReadDraft>>;
 
-/// Read a context section, without 1 and 22.
+/// Read a context section, without 1 and 22. What is inside of it is there as
+/// soon as it is there whole, so no part of it is short.
 pub fn context(mode: Mode) -> Faults {
     let mut list = vec![
         read("2 section length", |d| d.cut(Area::Context, 0)),
         read("2 whole section", |d| d.cut(Area::Context, 1)),
-        read("2 pair count", |d| d.cut_pair_count()),
+        read("32 pair count", |d| d.end_in_count()),
         read("8 count", |d| d.section(2, 1)),
     ];
     if mode == Mode::Strict {
@@ -29,17 +30,16 @@ pub fn context(mode: Mode) -> Faults {
 fn pair(at: usize) -> Faults {
     let name = |what: &str| what.replace('#', &(at + 1).to_string());
     let mut list = vec![
-        read(&name("2 key # length"), move |d| d.cut_pair(at, 0)),
-        read(&name("2 key #"), move |d| d.cut_pair(at, 1)),
+        read(&name("32 key # length"), move |d| d.end_in_pair(at, 0)),
+        read(&name("32 key #"), move |d| d.end_in_pair(at, 1)),
         read(&name("10 key #"), move |d| d.bad_key(at)),
-        read(&name("2 value # length"), move |d| d.cut_pair(at, 2)),
-        read(&name("2 value #"), move |d| d.cut_pair(at, 3)),
+        read(&name("32 value # length"), move |d| d.end_in_pair(at, 2)),
+        read(&name("32 value #"), move |d| d.end_in_pair(at, 3)),
         read(&name("11 value #"), move |d| d.fields.pairs[at].1[0] = 0xFF),
     ];
     if at > 0 {
         list.push(read(&name("12 key #"), move |d| d.repeat_key(at)));
     }
-    list.push(read(&name("13 pairs to #"), move |d| d.stretch(at)));
     list
 }
 

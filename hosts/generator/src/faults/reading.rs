@@ -2,7 +2,7 @@
 
 use super::Draft;
 use crate::fields::{back, front, Fields};
-use crate::image::{keys, pairs_length, section_with, Image};
+use crate::image::{keys, pairs_length, section, section_with, Form, Image};
 use crate::large::plain;
 use crate::Pair;
 
@@ -113,9 +113,7 @@ impl ReadDraft {
             Area::Front => front(fields),
             Area::Context => {
                 let pairs = self.pairs();
-                // Pairs that are too long have no length that is right.
-                let right = 2 + pairs_length(pairs);
-                let right = u16::try_from(right).unwrap_or(u16::MAX);
+                let right = 2 + pairs_length(pairs) as u16;
                 let length = self.section_length.unwrap_or(right);
                 let count = self.pair_count.unwrap_or(pairs.len() as u16);
                 section_with(pairs, length, count)
@@ -159,25 +157,26 @@ impl ReadDraft {
         self.cut = Some(self.cut.map_or(cut, |earlier| earlier.min(cut)));
     }
 
-    /// The whole section is there, by a stored length of at most this.
-    fn section_of_at_most(&mut self, length: u16) {
+    /// The section ends a byte before the end of this read, whose bytes are
+    /// there; one that ends before goes past its end with this read as well.
+    fn end_section_in(&mut self, read: usize) {
+        let stop = section(&sound_pairs(), Form::Today).stops[read];
+        let length = stop as u16 - 1 - 2;
         let shorter = self.section_length.map_or(length, |now| now.min(length));
         self.section_length = Some(shorter);
     }
 
-    /// The same in the count of pairs.
-    pub fn cut_pair_count(&mut self) {
-        self.section_of_at_most(1);
-        self.cut(Area::Context, 2);
+    /// It ends in the count of pairs.
+    pub fn end_in_count(&mut self) {
+        self.end_section_in(2);
     }
 
-    /// The same in a pair: 0 the key's length, 1 the key, 2 and 3 the value's.
-    pub fn cut_pair(&mut self, pair: usize, read: usize) {
-        self.section_of_at_most(3);
-        self.cut(Area::Context, 3 + 4 * pair + read);
+    /// It ends in a pair: 0 the key's length, 1 the key, 2 and 3 the value's.
+    pub fn end_in_pair(&mut self, pair: usize, read: usize) {
+        self.end_section_in(3 + 4 * pair + read);
     }
 
-    /// The same in a key: 0 and 1 the provider ID, 2 and 3 the provider info,
+    /// The message is cut in a key: 0 and 1 the provider ID, 2 and 3 the provider info,
     /// 4 and 5 the ciphertext, the length first.
     pub fn cut_key(&mut self, key: usize, read: usize) {
         self.cut(Area::Keys, 1 + 6 * key + read);
@@ -189,23 +188,20 @@ impl ReadDraft {
         self.pair_count = Some(count);
     }
 
-    /// The old form of an empty context; pairs in which the message is cut
-    /// stay behind it.
+    /// The old form of an empty context.
     pub fn old_form(&mut self) {
         self.section(2, 0);
         self.without_pairs = true;
     }
 
     fn pairs(&self) -> &[Pair] {
-        match self.cut {
-            Some((Area::Context, _)) => &self.fields.pairs,
-            _ if self.without_pairs => &[],
-            _ => &self.fields.pairs,
+        match self.without_pairs {
+            true => &[],
+            false => &self.fields.pairs,
         }
     }
 
-    /// The stored length goes a byte beyond the pairs; where these are
-    /// stretched, it isn't theirs either.
+    /// The stored length goes a byte beyond the pairs.
     pub fn section_too_long(&mut self) {
         self.section_length = Some(3 + pairs_length(&sound_pairs()) as u16);
     }
@@ -222,14 +218,6 @@ impl ReadDraft {
     /// The first key again.
     pub fn repeat_key(&mut self, pair: usize) {
         self.fields.pairs[pair].0 = self.fields.pairs[0].0.clone();
-    }
-
-    /// The pairs up to this one take 65,534 bytes, and more where an earlier
-    /// one is stretched as well.
-    pub fn stretch(&mut self, pair: usize) {
-        let before = pairs_length(&sound_pairs()[..pair]);
-        let (key, value) = &mut self.fields.pairs[pair];
-        value.resize(65_534 - before - 2 - key.len() - 2, b'a');
     }
 
     /// The last required place ends a byte behind the text.

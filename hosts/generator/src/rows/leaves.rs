@@ -78,8 +78,8 @@ pub fn numbers_at_every_edge(
     (STARTS.len() * WIDTHS.len()) as u64
 }
 
-/// `read` takes a message and a start.
-pub fn entries(read: impl Fn(&[u8], u64) -> Result<Place, Refused>) -> u64 {
+/// Entries without an end. `read` takes a message, a start and an end.
+pub fn entries(read: impl Fn(&[u8], u64, Option<u64>) -> Result<Place, Refused>) -> u64 {
     let rows: [(&[u8], u64, Result<Place, u64>); 7] = [
         (&[0, 0], 0, Ok((2, 0))),
         (&[0, 2, 7, 7, 7], 0, Ok((2, 2))),
@@ -91,9 +91,65 @@ pub fn entries(read: impl Fn(&[u8], u64) -> Result<Place, Refused>) -> u64 {
     ];
     for (bytes, start, wanted) in rows {
         let wanted = wanted.map_err(|position| (2, position));
-        assert_eq!(read(bytes, start), wanted, "{bytes:?}");
+        assert_eq!(read(bytes, start, None), wanted, "{bytes:?}");
     }
     rows.len() as u64
+}
+
+/// Message, start, end, and the place or the refusal.
+type Ended<'a> = (&'a [u8], u64, u64, Result<Place, Refused>);
+
+const PAST: Result<Place, Refused> = Err((32, 0));
+const GREATEST: u64 = u32::MAX as u64;
+
+const ENDED: [Ended; 32] = [
+    // The length ends past the end, at it and before it.
+    (&[0, 0], 0, 0, PAST),
+    (&[0, 0], 0, 1, PAST),
+    (&[0, 0], 0, 2, Ok((2, 0))),
+    (&[0, 0], 0, 3, Ok((2, 0))),
+    // The bytes do.
+    (&[0, 2, 7, 7, 7], 0, 2, PAST),
+    (&[0, 2, 7, 7, 7], 0, 3, PAST),
+    (&[0, 2, 7, 7, 7], 0, 4, Ok((2, 2))),
+    (&[0, 2, 7, 7, 7], 0, 5, Ok((2, 2))),
+    (&[9, 0, 1, 7], 1, 3, PAST),
+    (&[9, 0, 1, 7], 1, 4, Ok((3, 1))),
+    // An end at the start, and before it.
+    (&[9, 0, 1, 7], 1, 1, PAST),
+    (&[9, 0, 1, 7], 1, 0, PAST),
+    // The length isn't there whole: its end is tested first.
+    (&[], 0, 1, PAST),
+    (&[], 0, 2, Err((2, 2))),
+    (&[0], 0, 1, PAST),
+    (&[0], 0, 2, Err((2, 2))),
+    (&[0, 0], 1, 2, PAST),
+    (&[0, 0], 1, 3, Err((2, 3))),
+    (&[0, 0], 70, 71, PAST),
+    (&[0, 0], 70, 72, Err((2, 72))),
+    // The bytes aren't.
+    (&[0, 5], 0, 2, PAST),
+    (&[0, 5], 0, 6, PAST),
+    (&[0, 5], 0, 7, Err((2, 7))),
+    (&[0xFF, 0xFF], 0, 65_536, PAST),
+    (&[0xFF, 0xFF], 0, 65_537, Err((2, 65_537))),
+    // Ends that 32 bits don't keep.
+    (&[0, 0], 0, 1 << 32, Ok((2, 0))),
+    (&[0, 0], 0, u64::MAX, Ok((2, 0))),
+    (&[0, 5], 0, 1 << 32, Err((2, 7))),
+    (&[0, 5], 0, u64::MAX, Err((2, 7))),
+    (&[0, 0], GREATEST, GREATEST + 1, PAST),
+    (&[0, 0], GREATEST, GREATEST + 2, Err((2, GREATEST + 2))),
+    (&[0, 0], GREATEST, u64::MAX, Err((2, GREATEST + 2))),
+];
+
+/// Entries with an end. `read` is that of `entries`.
+pub fn entries_within(read: impl Fn(&[u8], u64, Option<u64>) -> Result<Place, Refused>) -> u64 {
+    for (bytes, start, end, wanted) in ENDED {
+        let what = format!("{bytes:?} at {start}, to {end}");
+        assert_eq!(read(bytes, start, Some(end)), wanted, "{what}");
+    }
+    ENDED.len() as u64
 }
 
 /// Where a leaf is asked to write.

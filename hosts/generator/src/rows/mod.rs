@@ -1,5 +1,5 @@
-//! Rows written by hand from document 01: an input, and the answer that it
-//! has to get.
+//! Rows written by hand from documents 01 and 02: an input, and the answer that
+//! it has to get.
 //!
 //! Each function takes what it holds the rows against, so that one table is
 //! there for the separate implementation and for ours. It answers how many
@@ -11,6 +11,7 @@ pub mod leaves;
 pub mod listings;
 pub mod only_authenticated;
 pub mod records;
+pub mod section_ends;
 pub mod section_writes;
 pub mod sections;
 pub mod sizes;

@@ -101,24 +101,27 @@ pub fn empty_contexts_and_parts(codec: &impl Codec) -> u64 {
 }
 
 /// A section at a start, and its refusal.
-const REFUSED: [(&str, u64, Refused); 17] = [
+const REFUSED: [(&str, u64, Refused); 20] = [
     ("00 00", 1 << 32, (1, 0)),
     ("00 00", u64::MAX, (1, 0)),
     ("", 0, (2, 2)),
     ("00", 0, (2, 2)),
     ("00 00", u32::MAX as u64, (2, 4_294_967_297)),
     ("00 02 00", 0, (2, 4)),
-    ("00 01 00", 0, (2, 4)),
-    ("FF 00 01 00", 1, (2, 5)),
+    ("FF 00 06 00 01 00 00 00", 1, (2, 9)),
+    ("00 01 00", 0, (32, 0)),
+    ("FF 00 01 00", 1, (32, 0)),
+    ("00 01 00 00", 0, (32, 0)),
     ("00 02 00 01", 0, (8, 0)),
     ("00 03 00 00 00", 0, (9, 0)),
-    ("00 01 00 00", 0, (9, 0)),
     ("00 08 00 01 00 02 C0 80 00 00", 0, (10, 0)),
     ("00 08 00 01 00 00 00 02 C0 80", 0, (11, 0)),
     ("00 0A 00 02 00 00 00 00 00 00 00 00", 0, (12, 0)),
-    ("00 04 00 01 00 05", 0, (2, 11)),
-    ("00 04 00 01 00 05 61 62 63 64 65 00 00", 0, (14, 0)),
-    ("FF 00 06 00 01 00 00 00 01", 1, (2, 10)),
+    ("00 04 00 01 00 05", 0, (32, 0)),
+    ("00 04 00 01 00 05 61 62 63 64 65 00 00", 0, (32, 0)),
+    ("FF 00 06 00 01 00 00 00 01", 1, (32, 0)),
+    ("00 06 00 02 00 00 00 00", 0, (32, 0)),
+    ("00 07 00 01 00 00 00 00 00", 0, (14, 0)),
 ];
 
 /// A section's refusal comes before that of the table (31), and both before
@@ -148,7 +151,7 @@ pub fn the_section_is_refused_first(codec: &impl Codec) -> u64 {
 }
 
 /// Pairs of 65,533 bytes and their count are the longest image there is; of
-/// 65,534 bytes they are refused, before 31.
+/// 65,534 bytes the last goes past the section, which comes before 31.
 pub fn the_longest_image(codec: &impl Codec) -> u64 {
     let mut image = hex("00 01 00 01 61 FF F8");
     image.resize(65_535, b'v');
@@ -164,8 +167,8 @@ pub fn the_longest_image(codec: &impl Codec) -> u64 {
     assert_eq!(write(&section, &[1, 1], 0).0, Ok(0));
     section[7..9].copy_from_slice(&[0xFF, 0xF9]);
     section.push(b'v');
-    assert_eq!(write(&section, &[0, 1], 65_535).0, Err((13, 0)));
-    assert_eq!(write(&section, &[0, 1, 0], 0).0, Err((13, 0)));
+    assert_eq!(write(&section, &[0, 1], 65_535).0, Err((32, 0)));
+    assert_eq!(write(&section, &[0, 1, 0], 0).0, Err((32, 0)));
     5
 }
 

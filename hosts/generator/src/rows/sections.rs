@@ -4,7 +4,7 @@ use super::{Codec, Refused, Section};
 use crate::headers::hex;
 
 /// The rows at start 0; true is strict.
-const AT_START_0: [(&str, bool, Section); 22] = [
+const AT_START_0: [(&str, bool, Section); 31] = [
     ("00 00", false, Ok((0, 2))),
     ("00 00", true, Ok((0, 2))),
     ("00 02 00 00", false, Ok((0, 4))),
@@ -13,20 +13,32 @@ const AT_START_0: [(&str, bool, Section); 22] = [
     ("00 02 00 01", true, Err((8, 0))),
     ("00 03 00 00 00", false, Err((9, 0))),
     ("00 03 00 00 00", true, Err((9, 0))),
-    ("00 01 00", false, Err((2, 4))),
-    ("00 01 00", true, Err((2, 4))),
-    ("00 01 00 00", false, Err((9, 0))),
+    ("00 01 00", false, Err((32, 0))),
+    ("00 01 00", true, Err((32, 0))),
+    ("00 01 00 00", false, Err((32, 0))),
+    ("00 01 00 00", true, Err((32, 0))),
     ("00 06 00 01 00 00 00 00", false, Ok((1, 8))),
     ("00 06 00 01 00 00 00 00", true, Ok((1, 8))),
     ("00 0A 00 02 00 00 00 00 00 00 00 00", false, Err((12, 0))),
     ("00 08 00 01 00 02 C0 80 00 00", false, Err((10, 0))),
     ("00 08 00 01 00 00 00 02 C0 80", false, Err((11, 0))),
-    ("00 04 00 01 00 05", false, Err((2, 11))),
+    ("00 04 00 01 00 05", false, Err((32, 0))),
+    ("00 04 00 01 00 05", true, Err((32, 0))),
     (
         "00 04 00 01 00 05 61 62 63 64 65 00 00",
         false,
-        Err((14, 0)),
+        Err((32, 0)),
     ),
+    // The length of a value, of a key and of a second key.
+    ("00 05 00 01 00 00 00 00", false, Err((32, 0))),
+    ("00 03 00 01 00", true, Err((32, 0))),
+    ("00 06 00 02 00 00 00 00", false, Err((32, 0))),
+    // A part's own test comes after its end's, and before the next part's.
+    ("00 05 00 01 00 02 C0 80 00 00", false, Err((32, 0))),
+    ("00 06 00 01 00 02 C0 80 00 00", false, Err((10, 0))),
+    // The pairs end early: by a byte, and by a whole pair.
+    ("00 07 00 01 00 00 00 00 00", false, Err((14, 0))),
+    ("00 0B 00 01 00 00 00 00 00 01 61 00 00", true, Err((14, 0))),
     ("", false, Err((2, 2))),
     ("00", false, Err((2, 2))),
     ("00 02", false, Err((2, 4))),
@@ -75,15 +87,23 @@ pub fn the_longest_pairs(codec: &impl Codec) -> u64 {
     );
     assert_eq!(table, [6, 0, 8, 65_529]);
     compared += 1;
+    // No stored length is that of one byte more; of one byte less it is.
     for stored in [65_535, 65_534, 3] {
         let too_long = long_section(65_534, stored);
         assert_eq!(
             codec.read_section(&too_long, 0, false, &mut table),
-            Err((13, 0))
+            Err((32, 0))
         );
         compared += 1;
     }
-    // The same on writing: the value's length decides.
+    let mut early = long_section(65_532, 65_535);
+    early.push(b'a');
+    assert_eq!(
+        codec.read_section(&early, 0, false, &mut table),
+        Err((14, 0))
+    );
+    compared += 1;
+    // On writing, the value's length decides, and 13 is what is refused.
     let text = vec![b'a'; 65_530];
     let mut out = vec![0u8; 70_000];
     assert_eq!(

@@ -9,8 +9,9 @@ const GREATEST: usize = u32::MAX as usize;
 const AT: u64 = (GREATEST - 58) as u64;
 
 pub fn messages_of_four_gibibytes(codec: &impl Codec) -> u64 {
-    let message = header_h_at_four_gibibytes();
-    too_long(codec, &message) + greatest(codec, &message)
+    let mut message = header_h_at_four_gibibytes();
+    let rows = too_long(codec, &message) + greatest(codec, &message);
+    rows + past_section(codec, &mut message[..GREATEST])
 }
 
 /// One byte too long: nothing is read, whatever the start.
@@ -78,4 +79,27 @@ fn greatest(codec: &impl Codec, message: &[u8]) -> u64 {
     assert_eq!(written, Ok(12));
     assert_eq!(out, *b"\0\x01\0\x04lang\0\x02cy");
     compared + 1
+}
+
+/// A section at the end of it, of which a part would end past it and past the
+/// greatest length as well.
+fn past_section(codec: &impl Codec, message: &mut [u8]) -> u64 {
+    let mut compared = 0;
+    for section in [&[0, 1, 0][..], &[0, 4, 0, 1, 0, 5]] {
+        let at = GREATEST - section.len();
+        message[at..].copy_from_slice(section);
+        let start = at as u64;
+        let refusals = [
+            codec.read_section(message, start, false, &mut []).err(),
+            codec.find(message, start, b"").err(),
+            codec
+                .write_only_authenticated(message, start, b"", &[0], &mut [])
+                .err(),
+        ];
+        for refusal in refusals {
+            assert_eq!(refusal, Some((32, 0)), "{section:?}");
+            compared += 1;
+        }
+    }
+    compared
 }

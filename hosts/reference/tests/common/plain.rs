@@ -1,5 +1,6 @@
-//! A slow second opinion: the source's readers line by line, on owned bytes,
-//! with std's UTF-8 and a search of a list for earlier keys.
+//! A slow second opinion: the source's readers line by line, with the refusals
+//! that later requests put in front of theirs, on owned bytes, with std's UTF-8
+//! and a search of a list for earlier keys.
 
 use std::str::from_utf8;
 
@@ -44,8 +45,15 @@ impl<'a> Buffer<'a> {
             .fold(0, |number, byte| number * 256 + u128::from(*byte)))
     }
 
-    fn entry(&mut self) -> Result<Part, No> {
+    /// The next `n` bytes don't go past an end, if there is one.
+    fn within(&self, n: u128, end: Option<u128>) -> Result<(), No> {
+        need(end.is_none_or(|end| self.start + n <= end), 32)
+    }
+
+    fn entry(&mut self, end: Option<u128>) -> Result<Part, No> {
+        self.within(2, end)?;
         let n = self.number(2)?;
+        self.within(n, end)?;
         self.read(n)
     }
 }
@@ -63,9 +71,10 @@ pub fn section(buffer: &mut Buffer, strict: bool) -> Result<Vec<Part>, No> {
     if length == 0 {
         return Ok(Vec::new());
     }
-    let begin = buffer.start;
+    let end = buffer.start + length;
     let mut whole = *buffer;
     whole.read(length)?;
+    buffer.within(2, Some(end))?;
     let count = buffer.number(2)?;
     if length == 2 {
         need(count == 0, 8)?;
@@ -73,21 +82,19 @@ pub fn section(buffer: &mut Buffer, strict: bool) -> Result<Vec<Part>, No> {
         return Ok(Vec::new());
     }
     need(count > 0, 9)?;
-    let first = buffer.start;
     let mut parts: Vec<Part> = Vec::new();
     let mut earlier: Vec<Vec<u8>> = Vec::new();
     for _ in 0..count {
-        let key = buffer.entry()?;
+        let key = buffer.entry(Some(end))?;
         need(from_utf8(&key.1).is_ok(), 10)?;
-        let value = buffer.entry()?;
+        let value = buffer.entry(Some(end))?;
         need(from_utf8(&value.1).is_ok(), 11)?;
         need(!earlier.contains(&key.1), 12)?;
-        need(buffer.start - first < 65_534, 13)?;
         earlier.push(key.1.clone());
         parts.push(key);
         parts.push(value);
     }
-    need(buffer.start - begin == length, 14)?;
+    need(buffer.start == end, 14)?;
     Ok(parts)
 }
 
@@ -98,11 +105,11 @@ pub fn keys(buffer: &mut Buffer, max: Option<u64>) -> Result<Vec<Part>, No> {
     }
     let mut parts = Vec::new();
     for _ in 0..count {
-        let provider = buffer.entry()?;
+        let provider = buffer.entry(None)?;
         need(from_utf8(&provider.1).is_ok(), 16)?;
         parts.push(provider);
-        parts.push(buffer.entry()?);
-        parts.push(buffer.entry()?);
+        parts.push(buffer.entry(None)?);
+        parts.push(buffer.entry(None)?);
     }
     Ok(parts)
 }
