@@ -3,7 +3,7 @@ use mathlib.Core.Path.{_≡_, refl, sym, ap, _∙_}
 use mathlib.Core.Bool.{Bool, true, false, not, cond, _&&_, _||_}
 use mathlib.Core.Option.{Option, none, some}
 use mathlib.Core.List.{List, [], _∷_, _++_, map}
-use Prim.Native.Nat.{ℕ, suc, _+_, _-_, _≤_, _<_}
+use Prim.Native.Nat.{ℕ, zero, suc, _+_, _-_, _≤_, _<_}
 use native.Mathlib.Omega.{arith}
 use lib.Dec.{leb, ltb, eqb}
 use lib.ListN.{length, drop}
@@ -15,10 +15,10 @@ use Rattle.format.specs.Shared.{by, read-message-format-version, read-es
 use Rattle.format.specs.Fields.{PairAt, pair-of}
 use Rattle.format.specs.Context.{Mode, is-strict, seen, read-text, read-aad-pair, read-next-aad-pair, read-aad-by, read-aad, read-aad-of, read-aad-section, read-aad-section-into}
 use Rattle.format.specs.Keys.{Max, read-encrypted-data-key, read-encrypted-data-keys-section, read-encrypted-data-keys-section-into}
-use Rattle.format.specs.Places.{number-here, number8, number16, number32, part-of, entry-here, entry-end, pair-here, pair-end, pairs-here, pairs-end, key-here, key-end, section-pairs, section-keys, section-keys-end}
+use Rattle.format.specs.Places.{number-here, number8, number16, number32, part-of, entry-here, entry-end, items-end, pair-here, pair-end, pairs-here, pairs-end, key-here, key-end, section-pairs, section-keys, section-keys-end}
 use Rattle.format.specs.First.{Line, lacks, when, unless, held-list, entry-list, each-list, pair-list, context-list-of, context-list, key-list, keys-list, context-into-list, keys-into-list}
-use Rattle.format.proofs.Tests.{is-leb, is-nleb, is-eqb}
-use Rattle.format.proofs.Lines.{first-line, one-none, join-none, Goes, goes-as, return-goes, bind-goes, test-goes, not-goes, held-goes, read-goes, repeat-goes, framed-goes}
+use Rattle.format.proofs.Tests.{never, leb-is, nleb-is, is-leb, is-nleb, eqb-is, is-eqb}
+use Rattle.format.proofs.Lines.{first-line, one-none, join-none, behind-line, behind-list, Goes, goes-as, return-goes, bind-goes, test-goes, not-goes, held-goes, read-goes, repeat-goes, framed-goes}
 
 -- the numbers of 1, 2 and 4 bytes, byte by byte
 module _ (m : List ℕ) (s : ℕ) where
@@ -89,6 +89,45 @@ in-words true false strictly x y z rest = refl
 in-words false true strictly x y z rest = refl
 in-words false false strictly x y z rest = refl
 
+-- pairs of which none is refused by 32 end within the section's end
+pair-within : (e : ℕ) (done : List PairAt) (m : List ℕ) (s : ℕ) → first-line (pair-list (end-at e) done m s) ≡ none → pair-end m s ≤ e
+unfolding pair-list entry-list
+pair-within e done m s h =
+    let value = one-none _ _ (one-none _ _ (one-none _ _ (one-none _ _ (one-none _ _ (one-none _ _ (one-none _ _ h .1) .1) .1) .1) .1) .1) .1 in
+    let k : pair-end m s < suc e = is-nleb (suc e) (pair-end m s) (one-none _ _ value .0) in
+    omega arith
+
+pairs-within : (e n : ℕ) (done : List PairAt) (m : List ℕ) (s : ℕ) → s ≤ e → first-line (each-list (pair-list (end-at e)) pair-here pair-end n done m s) ≡ none → pairs-end m n s ≤ e
+unfolding each-list items-end
+pairs-within e zero done m s h k = h
+pairs-within e (suc n) done m s h k =
+    let (a, b) = join-none (pair-list (end-at e) done m s) (each-list (pair-list (end-at e)) pair-here pair-end n (done ++ (pair-here m s ∷ [])) m (pair-end m s)) k in
+    pairs-within e n (done ++ (pair-here m s ∷ [])) m (pair-end m s) (pair-within e done m s a) b
+
+-- so those that do not end where the section does end before it
+early : (t e : ℕ) → t ≤ e → first-line (when 14 (ltb t e) ∷ []) ≡ first-line (unless 14 (eqb t e) ∷ [])
+early t e h = by (eqb t e) refl
+  where
+    before : (b : Bool) → leb e t ≡ b → eqb t e ≡ false → t < e
+    before true g k = let q : e ≤ t = is-leb e t g in never (eqb-is t e (omega arith)) k
+    before false g k = is-nleb e t g
+
+    by : (b : Bool) → eqb t e ≡ b → first-line (when 14 (ltb t e) ∷ []) ≡ first-line (unless 14 (eqb t e) ∷ [])
+    by true k = let q : t ≡ e = is-eqb t e k in rw (k, nleb-is (suc t) e (omega arith)) refl
+    by false k = rw (k, leb-is (suc t) e (before (leb e t) refl k)) refl
+
+abbrev section-lines : ℕ → List ℕ → ℕ → Line → Line → Line → Line → List Line
+section-lines n m s a b c last =
+    lacks n m s ∷ when 32 (ltb (s + n) (s + 2)) ∷ lacks 2 m s ∷ a ∷ b ∷ c ∷ (each-list (pair-list (end-at (s + n))) pair-here pair-end (number16 m s) [] m (s + 2) ++ (last ∷ []))
+
+ends-early : (n : ℕ) (m : List ℕ) (s : ℕ) (a b c : Line)
+    → first-line (section-lines n m s a b c (when 14 (ltb (pairs-end m (number16 m s) (s + 2)) (s + n)))) ≡ first-line (section-lines n m s a b c (unless 14 (eqb (pairs-end m (number16 m s) (s + 2)) (s + n))))
+ends-early n m s a b c =
+    behind-line _ _ _ (λ _. behind-line _ _ _ (λ h. behind-line _ _ _ (λ _. behind-line a _ _ (λ _. behind-line b _ _ (λ _. behind-line c _ _ (λ _.
+    behind-list (each-list (pair-list (end-at (s + n))) pair-here pair-end (number16 m s) [] m (s + 2)) _ _ (λ k.
+    let g : s + 2 < suc (s + n) = is-nleb (suc (s + n)) (s + 2) h in
+    early (pairs-end m (number16 m s) (s + 2)) (s + n) (pairs-within (s + n) (number16 m s) [] m (s + 2) (omega arith) k))))))))
+
 -- where the pairs end is where the section's length says
 context-of-goes : (mode : Mode) (b : Bool) (n : ℕ) → Goes (read-aad-of mode b n) (context-list-of mode b n)
     (λ m s. cond b [] (pairs-here m (number16 m s) (s + 2))) (λ m s. cond b s (s + n))
@@ -96,7 +135,7 @@ unfolding read-aad-of read-aad read-aad-by context-list-of
 context-of-goes mode true n = return-goes []
 context-of-goes mode false n =
     goes-as (framed-goes n 14 (read-aad mode n) (λ e. held-goes (end-at e) 2 (bind-goes uint16-goes (λ count. test-goes _ _ (test-goes _ _ (test-goes _ _ (repeat-goes (pair-goes e) count [])))))))
-    (λ m s. in-words (eqb n 2) (eqb (number16 m s) 0) (is-strict mode) _ _ _ _)
+    (λ m s. in-words (eqb n 2) (eqb (number16 m s) 0) (is-strict mode) _ _ _ _ ∙ ends-early n m s _ _ _)
     (λ m s e. (refl, refl))
 
 pub context-goes : (mode : Mode) → Goes (read-aad-section mode) (context-list mode) section-pairs entry-end

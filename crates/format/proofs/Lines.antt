@@ -60,6 +60,20 @@ one-none x xs e = go (x .applies) refl e
     go true h e = some-is-not-none e
     go false h e = (h, e)
 
+-- lists whose ends say the same where no line before them applies
+pub behind-line : (x : Line) (xs ys : List Line) → (x .applies ≡ false → first-line xs ≡ first-line ys) → first-line (x ∷ xs) ≡ first-line (x ∷ ys)
+unfolding first-line
+behind-line x xs ys h = go (x .applies) refl
+  where
+    go : (b : Bool) → x .applies ≡ b → by-applies b x (first-line xs) ≡ by-applies b x (first-line ys)
+    go true e = refl
+    go false e = h e
+
+pub behind-list : (xs ys zs : List Line) → (first-line xs ≡ none → first-line ys ≡ first-line zs) → first-line (xs ++ ys) ≡ first-line (xs ++ zs)
+unfolding first-line
+behind-list [] ys zs h = h refl
+behind-list (x ∷ xs) ys zs h = behind-line x (xs ++ ys) (xs ++ zs) (λ e. behind-list xs ys zs (λ k. h (rw e k)))
+
 -- `first-line` as the statements have it
 pub none-applies : (xs : List Line) → first-line xs ≡ none → NoneApplies xs
 unfolding first-line every

@@ -81,7 +81,8 @@ pair-list e done m s =
     ∷ when 12 (seen (p .key .bytes) (map pair-of done))
     ∷ []))))
 
--- What follows a context section's length n; true: n is 0, and nothing follows
+-- What follows a context section's length n; true: n is 0, and nothing follows. Behind 32, the pairs that do not end where the section does
+-- end before it: 14.
 unfoldable pub context-list-of : Mode → Bool → ℕ → List ℕ → ℕ → List Line
 context-list-of mode true n m s = []
 context-list-of mode false n m s =
@@ -94,7 +95,7 @@ context-list-of mode false n m s =
     ∷ when 21 (eqb n 2 && (eqb count 0 && is-strict mode))
     ∷ when 9 (not (eqb n 2) && eqb count 0)
     ∷ (each-list (pair-list end) pair-here pair-end count [] m (s + 2)
-    ++ (unless 14 (eqb (pairs-end m count (s + 2)) (s + n))
+    ++ (when 14 (ltb (pairs-end m count (s + 2)) (s + n))
     ∷ [])))))
 
 unfoldable pub context-list : Mode → List ℕ → ℕ → List Line

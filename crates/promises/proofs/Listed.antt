@@ -35,11 +35,11 @@ module _ {A R : Type 0} (code : Answer A → R) (refused-as : Refusal → R)
         accepts = λ f. e ∙ ap code (law .accepts f);
       }
 
-back-context : (o : Answer (List PairAt)) (q : Refusal) → context-of o ≡ context.Refused q → o ≡ refused (q .number) (q .position)
+pub back-context : (o : Answer (List PairAt)) (q : Refusal) → context-of o ≡ context.Refused q → o ≡ refused (q .number) (q .position)
 back-context (accepted ps t) q e = let z : _≡_ {A = ℕ} 0 1 = cc in absurd (omega arith)
 back-context (refused k p) q e = let z : because k p ≡ q = cc in rw (← z) refl
 
-back-found : (o : Answer Part) (q : Refusal) → found-of o ≡ found.Refused q → o ≡ refused (q .number) (q .position)
+pub back-found : (o : Answer Part) (q : Refusal) → found-of o ≡ found.Refused q → o ≡ refused (q .number) (q .position)
 back-found (accepted ps t) q e = let z : _≡_ {A = ℕ} 0 1 = cc in absurd (omega arith)
 back-found (refused k p) q e = let z : because k p ≡ q = cc in rw (← z) refl
 
@@ -47,7 +47,7 @@ back-keys : (o : Answer (List EncryptedDataKeyAt)) (q : Refusal) → keys-of o �
 back-keys (accepted ps t) q e = let z : _≡_ {A = ℕ} 0 1 = cc in absurd (omega arith)
 back-keys (refused k p) q e = let z : because k p ≡ q = cc in rw (← z) refl
 
-back-written : (o : Answer (List ℕ)) (q : Refusal) → written-as o ≡ write.Refused q → o ≡ refused (q .number) (q .position)
+pub back-written : (o : Answer (List ℕ)) (q : Refusal) → written-as o ≡ write.Refused q → o ≡ refused (q .number) (q .position)
 back-written (accepted image t) q e = let z : _≡_ {A = ℕ} 0 1 = cc in absurd (omega arith)
 back-written (refused k p) q e = let z : because k p ≡ q = cc in rw (← z) refl
 

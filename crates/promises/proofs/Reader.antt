@@ -57,7 +57,7 @@ accepted-is : (r : HeaderBodyAnswer) (o : Answer BodyRead) → r ≡ body-of o �
 accepted-is r (accepted b u) e x t f = (b, ap (accepted b) (cc))
 accepted-is r (refused k p) e x t f = let z : _≡_ {A = ℕ} 0 1 = cc in absurd (omega arith)
 
-refused-is : (r : HeaderBodyAnswer) (o : Answer BodyRead) → r ≡ body-of o → (q : Refusal) → r ≡ Refused q → o ≡ refused (q .number) (q .position)
+pub refused-is : (r : HeaderBodyAnswer) (o : Answer BodyRead) → r ≡ body-of o → (q : Refusal) → r ≡ Refused q → o ≡ refused (q .number) (q .position)
 refused-is r (accepted b u) e q f = let z : _≡_ {A = ℕ} 0 1 = cc in absurd (omega arith)
 refused-is r (refused k p) e q f = let z : because k p ≡ q = cc in rw (← z) refl
 
