@@ -4,3 +4,4 @@ pub mod Headers
 pub mod Tags
 pub mod Faults
 pub mod Occurs
+pub mod Sourced

@@ -20,6 +20,7 @@ pub mod ListedLaws
 pub mod Listed
 pub mod Wanted
 pub mod Helps
+pub mod SourceListed
 pub mod SourceEquality
 pub mod Held
 pub mod Either

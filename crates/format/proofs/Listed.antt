@@ -17,7 +17,7 @@ use Rattle.format.specs.Auth.{read-header-auth-tag-of, read-header-auth-
 use Rattle.format.specs.OnlyAuthenticated.{fitting, write-only-authenticated}
 use Rattle.format.specs.Refusals.{section-refusals, context-refusals, find-refusals, only-authenticated-refusals, opening-refusals, reserved-refusals, frame-refusals, closing-refusals, keys-refusals, body-refusals, auth-refusals, Refusal, RefusesBy, Refusals}
 use Rattle.format.proofs.Tests.{is-eqb}
-use Rattle.format.proofs.Members.{has, no-member}
+use Rattle.format.proofs.Members.{has, has-neither, no-member}
 use Rattle.format.proofs.ListedLaws.{Fine, Listed, listed-as, also, bind-listed, then-listed, return-listed, sure-listed, test-listed, held-refusals, held-listed, read-listed, repeat-listed, framed-listed, Gives, return-gives, bind-gives, passed-listed, passed-gives, given-listed}
 use Rattle.format.proofs.Messages.{cases}
 
@@ -30,7 +30,7 @@ uint8-listed : Listed [] read-uint8
 unfolding read-uint8
 uint8-listed = uint-listed 1
 
-uint16-listed : Listed [] read-uint16
+pub uint16-listed : Listed [] read-uint16
 unfolding read-uint16
 uint16-listed = uint-listed 2
 
@@ -91,7 +91,7 @@ section-into-listed : (mode : Mode) (room : ℕ) → Listed (section-refusals mo
 unfolding read-aad-section-into
 section-into-listed mode room = bind-listed (section-listed mode) (λ ps. then-listed (test-listed 22 _) (return-listed _))
 
-look-listed : (k : List ℕ) (ps : List PairAt) → Listed (29 ∷ []) (look-up k ps)
+pub look-listed : (k : List ℕ) (ps : List PairAt) → Listed (29 ∷ []) (look-up k ps)
 unfolding look-up
 look-listed k [] = record { fine = λ l s. List·Memᴰ·head refl }
 look-listed k (p ∷ ps) = record { fine = λ l s. go l s (same-bytes k (p .key .bytes)) (look-listed k ps .fine l s) }
@@ -199,9 +199,14 @@ unfolding after-context closing-refusals
 after-context-listed q o h ps =
     bind-listed (keys-listed (q .max)) (λ ks. bind-listed (closing-listed (q .which) o h) (λ c. frames-listed (q .frames) (frame-fits (c .contentType) (c .frameLength)) (tables-listed _ _ _)))
 
+-- whatever its section is read by
+pub body-listed-by : (q : Request) {ks : List ℕ} {section : Reader (List PairAt)} → Listed ks section
+    → Listed (opening-refusals (q .which) ++ (ks ++ closing-refusals (q .which) (q .frames))) (read-opening (q .which) >>= λ o. section >>= after-context q o)
+body-listed-by q h = given-listed (opening-listed (q .which)) (opening-gives (q .which)) (λ o g. bind-listed h (after-context-listed q o g))
+
 body-listed : (q : Request) → Listed (opening-refusals (q .which) ++ (section-refusals (q .mode) ++ closing-refusals (q .which) (q .frames))) (read-body q)
 unfolding read-body after-opening
-body-listed q = given-listed (opening-listed (q .which)) (opening-gives (q .which)) (λ o h. bind-listed (section-listed (q .mode)) (after-context-listed q o h))
+body-listed q = body-listed-by q (section-listed (q .mode))
 
 -- an authentication record
 auth-of-listed : (v1 : Bool) → Listed [] (read-header-auth-tag-of v1)
@@ -215,7 +220,7 @@ auth-listed suite = then-listed (test-listed 6 _) (auth-of-listed _)
 
 -- as operations, which test 1
 module _ {A : Type 0} (ks : List ℕ) (r : Reader A) (no-two : List·Memᴰ 2 ks → ⊥) (h : Listed ks r) where
-  refuses : RefusesBy (1 ∷ 2 ∷ ks) r
+  pub refuses : RefusesBy (1 ∷ 2 ∷ ks) r
   refuses m s k p e = cases r m s far near
     where
       far : operation r m s ≡ refused 1 0 → Refusal (1 ∷ 2 ∷ ks) m k p
@@ -241,39 +246,53 @@ module _ {A : Type 0} (ks : List ℕ) (r : Reader A) (no-two : List·Memᴰ 2 ks
       near : length m ≤ 4294967295 → s ≤ 4294967295 → operation r m s ≡ answer (r (drop s m) s) → Refusal (1 ∷ 2 ∷ ks) m k p
       near a b q = of (r (drop s m) s) (h .fine (drop s m) s) (sym q ∙ e)
 
--- 2 is listed by itself, and 13 not at all
-abbrev pub Without : List ℕ → Type 0
-Without ks = (has ks 2 ≡ false) × (has ks 13 ≡ false)
+-- What stands before a context section and behind it, by what was asked: 2 is listed by itself, 32 is a section's, and 13 only a writer's.
+abbrev Without : List ℕ → Type 0
+Without ks = (has ks 2 ≡ false) × (has ks 13 ≡ false) × (has ks 32 ≡ false)
 
--- the lists, by what was asked
-pub body-without : (which : Which) (mode : Mode) (frames : Bool) → Without (opening-refusals which ++ (section-refusals mode ++ closing-refusals which frames))
-unfolding opening-refusals section-refusals reserved-refusals frame-refusals closing-refusals
-body-without either tolerant true = (refl, refl)
-body-without either tolerant false = (refl, refl)
-body-without either strict true = (refl, refl)
-body-without either strict false = (refl, refl)
-body-without v1-only tolerant true = (refl, refl)
-body-without v1-only tolerant false = (refl, refl)
-body-without v1-only strict true = (refl, refl)
-body-without v1-only strict false = (refl, refl)
-body-without v2-only tolerant true = (refl, refl)
-body-without v2-only tolerant false = (refl, refl)
-body-without v2-only strict true = (refl, refl)
-body-without v2-only strict false = (refl, refl)
+opening-without : (which : Which) → Without (opening-refusals which)
+unfolding opening-refusals
+opening-without either = (refl, refl, refl)
+opening-without v1-only = (refl, refl, refl)
+opening-without v2-only = (refl, refl, refl)
 
-pub section-without : (mode : Mode) (ks : List ℕ) → Without ks → Without (section-refusals mode ++ ks)
+closing-without : (which : Which) (frames : Bool) → Without (closing-refusals which frames)
+unfolding reserved-refusals frame-refusals closing-refusals
+closing-without either true = (refl, refl, refl)
+closing-without either false = (refl, refl, refl)
+closing-without v1-only true = (refl, refl, refl)
+closing-without v1-only false = (refl, refl, refl)
+closing-without v2-only true = (refl, refl, refl)
+closing-without v2-only false = (refl, refl, refl)
+
+-- a body's numbers with a section's between them
+module _ (q : Request) (ks : List ℕ) where
+  abbrev body-numbers : List ℕ
+  body-numbers = opening-refusals (q .which) ++ (ks ++ closing-refusals (q .which) (q .frames))
+
+  pub body-without-2 : has ks 2 ≡ false → has body-numbers 2 ≡ false
+  body-without-2 e = has-neither (opening-refusals (q .which)) (ks ++ closing-refusals (q .which) (q .frames)) 2 (opening-without (q .which) .0) (has-neither ks (closing-refusals (q .which) (q .frames)) 2 e (closing-without (q .which) (q .frames) .0))
+
+  pub body-without-13 : has ks 13 ≡ false → has body-numbers 13 ≡ false
+  body-without-13 e = has-neither (opening-refusals (q .which)) (ks ++ closing-refusals (q .which) (q .frames)) 13 (opening-without (q .which) .1) (has-neither ks (closing-refusals (q .which) (q .frames)) 13 e (closing-without (q .which) (q .frames) .1))
+
+  pub body-without-32 : has ks 32 ≡ false → has body-numbers 32 ≡ false
+  body-without-32 e = has-neither (opening-refusals (q .which)) (ks ++ closing-refusals (q .which) (q .frames)) 32 (opening-without (q .which) .2) (has-neither ks (closing-refusals (q .which) (q .frames)) 32 e (closing-without (q .which) (q .frames) .2))
+
+-- a section's, which have 32 among them
+pub section-without : (mode : Mode) → (has (section-refusals mode) 2 ≡ false) × (has (section-refusals mode) 13 ≡ false)
 unfolding section-refusals
-section-without tolerant ks e = (rw (e .0) refl, rw (e .1) refl)
-section-without strict ks e = (rw (e .0) refl, rw (e .1) refl)
+section-without tolerant = (refl, refl)
+section-without strict = (refl, refl)
 
 pub refusals : Refusals
 unfolding context-refusals find-refusals only-authenticated-refusals keys-refusals body-refusals auth-refusals
 refusals =
     record {
-      of-context = λ mode room. refuses _ _ (no-member _ 2 (section-without mode (22 ∷ []) (refl, refl) .0)) (section-into-listed mode room);
-      of-find = λ k. refuses _ _ (no-member _ 2 (section-without tolerant (29 ∷ []) (refl, refl) .0)) (find-listed k);
-      of-only-authenticated = λ text required room. refuses _ _ (no-member _ 2 (section-without tolerant (31 ∷ 28 ∷ []) (refl, refl) .0)) (only-authenticated-listed text required room);
+      of-context = λ mode room. refuses _ _ (no-member _ 2 (has-neither (section-refusals mode) (22 ∷ []) 2 (section-without mode .0) refl)) (section-into-listed mode room);
+      of-find = λ k. refuses _ _ (no-member _ 2 (has-neither (section-refusals tolerant) (29 ∷ []) 2 (section-without tolerant .0) refl)) (find-listed k);
+      of-only-authenticated = λ text required room. refuses _ _ (no-member _ 2 (has-neither (section-refusals tolerant) (31 ∷ 28 ∷ []) 2 (section-without tolerant .0) refl)) (only-authenticated-listed text required room);
       of-keys = λ max room. refuses _ _ (no-member _ 2 refl) (keys-into-listed max room);
-      of-body = λ q. refuses _ _ (no-member _ 2 (body-without (q .which) (q .mode) (q .frames) .0)) (body-listed q);
+      of-body = λ q. refuses _ _ (no-member _ 2 (body-without-2 q (section-refusals (q .mode)) (section-without (q .mode) .0))) (body-listed q);
       of-auth = λ suite. refuses _ _ (no-member _ 2 refl) (auth-listed suite);
     }

@@ -2,7 +2,7 @@
 -- Assumes nothing.
 use mathlib.Core.Path.{_≡_, refl, sym, ap, _∙_}
 use mathlib.Core.Bool.{Bool, true, false, _&&_, _||_, false≢true}
-use mathlib.Core.List.{List, [], _∷_, List·Memᴰ, List·Memᴰ·head, List·Memᴰ·tail}
+use mathlib.Core.List.{List, [], _∷_, _++_, List·Memᴰ, List·Memᴰ·head, List·Memᴰ·tail}
 use Prim.Native.Nat.{ℕ}
 use lib.Dec.{eqb}
 use Rattle.format.proofs.Tests.{eqb-is, is-eqb}
@@ -31,6 +31,14 @@ member-is (j ∷ js) k (List·Memᴰ·tail h) = or-right (eqb k j) (member-is js
 pub members : (js ks : List ℕ) → has-all js ks ≡ true → (k : ℕ) → List·Memᴰ k ks → List·Memᴰ k js
 members js (j ∷ ks) e k (List·Memᴰ·head q) = rw q (is-member js j (both (has js j) _ e .0))
 members js (j ∷ ks) e k (List·Memᴰ·tail h) = members js ks (both (has js j) _ e .1) k h
+
+pub has-neither : (xs ys : List ℕ) (k : ℕ) → has xs k ≡ false → has ys k ≡ false → has (xs ++ ys) k ≡ false
+has-neither [] ys k e f = f
+has-neither (x ∷ xs) ys k e f = go (eqb k x) e (λ h. has-neither xs ys k h f)
+  where
+    go : (b : Bool) → b || has xs k ≡ false → (has xs k ≡ false → has (xs ++ ys) k ≡ false) → b || has (xs ++ ys) k ≡ false
+    go true e ih = e
+    go false e ih = ih e
 
 pub no-member : (ks : List ℕ) (k : ℕ) → has ks k ≡ false → List·Memᴰ k ks → ⊥
 no-member ks k e h = false≢true (sym e ∙ member-is ks k h)

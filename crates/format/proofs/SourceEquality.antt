@@ -13,15 +13,16 @@ use Rattle.format.specs.Context.{Mode, tolerant, read-aad-section, read-
 use Rattle.format.specs.OnlyAuthenticated.{write-only-authenticated}
 use Rattle.format.specs.Body.{Request, after-opening, read-body}
 use Rattle.format.specs.Lent.{table-after}
-use Rattle.format.specs.Refusals.{context-refusals, find-refusals, only-authenticated-refusals, body-refusals, RefusesBy}
+use Rattle.format.specs.Refusals.{section-refusals, context-refusals, find-refusals, only-authenticated-refusals, body-refusals, RefusesBy}
 use Rattle.format.specs.Source.{source-read-aad-section, source-read-aad-section-into, source-find-value, source-write-only-authenticated, source-after-opening, source-read-body}
 use Rattle.format.specs.SourceEquality.{Beside, SourceEquality}
 use Rattle.format.proofs.Messages.{bytes-drop, refused-is-no-accepted}
 use Rattle.format.proofs.Section.{Refuses, Alike, of-alike}
-use Rattle.format.proofs.Members.{has, no-member}
-use Rattle.format.proofs.Listed.{body-without, section-without, refusals}
+use Rattle.format.proofs.Members.{has, has-neither, no-member}
+use Rattle.format.proofs.Listed.{body-without-13, section-without, refusals}
 use Rattle.format.proofs.Wanted.{Near, Wants, uint16-wants, opening-wants}
 use Rattle.format.proofs.Helps.{section-wants}
+use Rattle.format.proofs.SourceListed.{into-never, find-never, only-authenticated-never, body-never}
 
 -- two readers that answer alike on bytes, at every place
 record BothRead {A : Type 0} (r r′ : Reader A) : Type 0 where
@@ -88,12 +89,13 @@ module _ {A : Type 0} where
       by true = answers (r (drop s m) s) (r′ (drop s m) s) (h .alike (drop s m) s (bytes-drop s m hb))
       by false = inl refl
 
-  module _ (o o′ : Answer A) (never : (p : ℕ) → o ≡ refused 13 p → ⊥) where
+  module _ (o o′ : Answer A) (never : (p : ℕ) → o ≡ refused 13 p → ⊥) (never-32 : (p : ℕ) → o′ ≡ refused 32 p → ⊥) where
     beside : AnswerAlike o o′ → Beside o o′
     beside (inl q) =
         record {
           alike = λ no. q;
-          both-refuse = λ p e. (32, p, sym q ∙ e);
+          both-refuse = λ p e. absurd (never-32 p (sym q ∙ e));
+          source-never-32 = never-32;
           accepts = λ a t. record { onward = λ e. sym q ∙ e; back = λ e. q ∙ e };
           table = λ numbers table. ap (λ x. table-after numbers x table) q;
           never-13 = never;
@@ -103,6 +105,7 @@ module _ {A : Type 0} where
         record {
           alike = λ no. absurd (no 0 q);
           both-refuse = λ w e. (k, p, r);
+          source-never-32 = never-32;
           accepts = λ a t. record { onward = λ e. refused-is-no-accepted (sym q ∙ e); back = λ e. refused-is-no-accepted (sym r ∙ e) };
           table = λ numbers table. rw (q, r) refl;
           never-13 = never;
@@ -117,10 +120,10 @@ pub source-equality : SourceEquality
 unfolding context-refusals find-refusals only-authenticated-refusals body-refusals
 source-equality =
     record {
-      of-context = λ mode room m s hb. beside _ _ (never-13 _ (section-without mode (22 ∷ []) (refl, refl) .1) _ (refusals .of-context mode room) m s) (operations (into-both mode room) m s hb);
-      of-find = λ k m s hb. beside _ _ (never-13 _ (section-without tolerant (29 ∷ []) (refl, refl) .1) _ (refusals .of-find k) m s) (operations (find-both k) m s hb);
+      of-context = λ mode room m s hb. beside _ _ (never-13 _ (has-neither (section-refusals mode) (22 ∷ []) 13 (section-without mode .1) refl) _ (refusals .of-context mode room) m s) (into-never mode room m s) (operations (into-both mode room) m s hb);
+      of-find = λ k m s hb. beside _ _ (never-13 _ (has-neither (section-refusals tolerant) (29 ∷ []) 13 (section-without tolerant .1) refl) _ (refusals .of-find k) m s) (find-never k m s) (operations (find-both k) m s hb);
       of-only-authenticated = λ text required room m s hb.
-          beside _ _ (never-13 _ (section-without tolerant (31 ∷ 28 ∷ []) (refl, refl) .1) _ (refusals .of-only-authenticated text required room) m s) (operations (only-authenticated-both text required room) m s hb);
-      of-body = λ q m s hb. beside _ _ (never-13 _ (body-without (q .which) (q .mode) (q .frames) .1) _ (refusals .of-body q) m s) (operations (body-both q) m s hb);
+          beside _ _ (never-13 _ (has-neither (section-refusals tolerant) (31 ∷ 28 ∷ []) 13 (section-without tolerant .1) refl) _ (refusals .of-only-authenticated text required room) m s) (only-authenticated-never text required room m s) (operations (only-authenticated-both text required room) m s hb);
+      of-body = λ q m s hb. beside _ _ (never-13 _ (body-without-13 q (section-refusals (q .mode)) (section-without (q .mode) .1)) _ (refusals .of-body q) m s) (body-never q m s) (operations (body-both q) m s hb);
       wants = section-wants;
     }

@@ -20,6 +20,8 @@ pub record Beside {A : Type 0} (ours source : Answer A) : Type 0 where
   pub alike : ((p : ℕ) → ours ≡ refused 32 p → ⊥) → ours ≡ source
   -- where ours answers 32, the source's reading refuses too
   pub both-refuse : (p : ℕ) → ours ≡ refused 32 p → (k : ℕ) × (q : ℕ) × (source ≡ refused k q)
+  -- and the source's reading never answers it, so the two part just there
+  pub source-never-32 : (p : ℕ) → source ≡ refused 32 p → ⊥
   -- so what is accepted does not change
   pub accepts : (a : A) (t : ℕ) → JustWhere (ours ≡ accepted a t) (source ≡ accepted a t)
   -- nor what a table holds afterwards, whichever numbers of the record it gets
