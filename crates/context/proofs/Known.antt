@@ -1,23 +1,21 @@
 -- A pair that was read is what stands there, and so are pairs and sections. Assumes nothing.
 use mathlib.Core.Path.{_≡_, refl, _∙_}
 use mathlib.Core.Bool.{Bool, true, false}
-use mathlib.Core.List.{List, [], map}
-use Prim.Native.Nat.{ℕ, zero, suc, _+_, _≤_, _<_}
+use mathlib.Core.List.{List, []}
+use Prim.Native.Nat.{ℕ, suc, _+_, _≤_, _<_}
 use native.Mathlib.Omega.{arith}
 use lib.Dec.{eqb}
-use lib.ListN.{length}
 use Rattle.format.specs.Read.{End, end-at, accepted, at}
 use Rattle.format.specs.Serialize.{read-uint16}
-use Rattle.format.specs.Fields.{PairAt, pair-of}
-use Rattle.format.specs.Context.{Mode, linear-length, read-aad-pair, read-next-aad-pair, read-aad-by, read-aad, read-aad-of, read-aad-section}
-use Rattle.format.specs.Places.{number16, entry-end, items-here, items-end, pair-here, pair-end, pairs-here, pairs-end}
+use Rattle.format.specs.Fields.{PairAt}
+use Rattle.format.specs.Context.{Mode, read-aad-pair, read-next-aad-pair, read-aad-by, read-aad, read-aad-of, read-aad-section}
+use Rattle.format.specs.Places.{items-here, pair-here, pair-end}
 use Rattle.steps.proofs.Tidy.{Tidy, tidy, return-tidy, text-tidy, uint16-tidy}
 use Rattle.format.proofs.Tests.{is-nleb}
 use Rattle.steps.proofs.Steps.{un-bind, un-test, un-held, un-return}
 use Rattle.steps.proofs.Frames.{un-frame}
-use Rattle.steps.proofs.Numbers.{length-part, uint16-known}
+use Rattle.steps.proofs.Numbers.{uint16-known}
 use Rattle.steps.proofs.Entries.{text-known}
-use Rattle.entries.proofs.Items.{reach}
 use Rattle.entries.proofs.Walk.{Known, Kind}
 use Rattle.entries.proofs.Sections.{Holds, all-hold}
 

@@ -2,7 +2,7 @@
 use mathlib.Core.Path.{_≡_, refl, sym, ap, subst, _∙_}
 use mathlib.Core.Bool.{Bool, true, false, not}
 use mathlib.Core.List.{List, []}
-use Prim.Native.Nat.{ℕ, zero, suc, _+_, _-_, _*_, _≤_, _<_}
+use Prim.Native.Nat.{ℕ, zero, suc, _+_, _*_, _≤_, _<_}
 use native.Mathlib.Numerals.{add-one}
 use native.Mathlib.Omega.{arith}
 use borrow.Author.Tests.{ltb-true, ltb-false, leb-true, leb-false}
@@ -11,7 +11,7 @@ use lib.ListN.{length}
 use Rattle.format.specs.Read.{end-at, accepted, repeat, at}
 use Rattle.format.specs.Fields.{PairAt}
 use Rattle.format.specs.Context.{read-text, read-aad-pair, read-next-aad-pair}
-use Rattle.format.specs.Places.{number16, items-end, pair-here, pair-end, pairs-here, pairs-end}
+use Rattle.format.specs.Places.{number16, items-end, pair-here, pair-end, pairs-end}
 use Rattle.steps.proofs.Tidy.{text-tidy}
 use Rattle.steps.proofs.Steps.{go, stop, pass, fail, gives}
 use Rattle.wire.specs.Codes.{because, span-of, why-span}
@@ -27,7 +27,7 @@ use Rattle.entries.proofs.Answers.{next-got, next-no}
 use Rattle.entries.proofs.Items.{reach}
 use Rattle.entries.proofs.Walk.{walk-start, walk-end, walk-stop, walk-more}
 use Rattle.index.specs.Index.{Copied}
-use Rattle.pair_index.specs.Index.{Indexed, Ready, Added}
+use Rattle.pair_index.specs.Index.{Ready, Added}
 use Rattle.pair_index.proofs.SeenLaws.{indexed-start, indexed-copied}
 use Rattle.context.specs.Stepping.{Space, Onward, Grown, After, Stepped, Reached, UpTo, ReadUpTo, Lendable, HasRoom, AfterAll, ReadAll}
 use Rattle.context.proofs.Known.{pair-tidy, pair-known, pair-held, pair-kind, forward}

@@ -8,7 +8,7 @@ use wire::refusals;
 use wire::refuse;
 ghost use mathlib.Core.Path.{_≡_};
 ghost use mathlib.Core.List.{[]};
-ghost use Prim.Native.Nat.{_+_, _≤_, _<_};
+ghost use Prim.Native.Nat.{_≤_, _<_};
 ghost use lib.ListN.{length};
 ghost use Rattle.format.specs.Read.{end-at, at, repeat};
 ghost use Rattle.format.specs.Context.{read-aad-pair, read-next-aad-pair};

@@ -1,6 +1,6 @@
 -- Ours beside the source's reading, in a section that ends at e: ours answers as the source's does and ends at e or before, or it refuses
 -- 32 where the source's refuses or ends past e. The judgement composes: sequence, test, counted repetition. Assumes nothing.
-use mathlib.Core.Path.{_≡_, refl, sym, ap, _∙_}
+use mathlib.Core.Path.{_≡_, refl}
 use mathlib.Core.Bool.{Bool, true, false, not, _&&_, _||_}
 use mathlib.Core.Logic.{_⊎_, inl, inr}
 use mathlib.Core.List.{List, [], _∷_, _++_, map}
@@ -8,9 +8,9 @@ use Prim.Native.Nat.{ℕ, zero, suc, _+_, _≤_, _<_}
 use native.Mathlib.Omega.{arith}
 use lib.Dec.{ltb, eqb}
 use Rattle.format.specs.Read.{ReadResult, success, more-needed, error, Reader, go-on, _>>=_, _>>_, return, test, no-end, end-at, held, repeat}
-use Rattle.format.specs.Serialize.{Part, read, read-uint16, read-short-length-seq, sum}
+use Rattle.format.specs.Serialize.{read, read-uint16, read-short-length-seq, sum}
 use Rattle.format.specs.Fields.{PairAt, pair-of}
-use Rattle.format.specs.Context.{seen, pair-length, linear-length, pairs-limit, Mode, is-strict, read-text, read-aad-pair, read-next-aad-pair, read-aad-by, read-aad}
+use Rattle.format.specs.Context.{pair-length, linear-length, pairs-limit, Mode, is-strict, read-text, read-aad-pair, read-next-aad-pair, read-aad-by, read-aad}
 use Rattle.format.specs.Source.{source-read-next-aad-pair}
 use Rattle.format.proofs.Tests.{leb-is, is-leb, is-nleb}
 use Rattle.format.proofs.Context.{with-one-more}

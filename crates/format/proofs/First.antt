@@ -16,7 +16,7 @@ use Rattle.format.specs.Fields.{PairAt, pair-of}
 use Rattle.format.specs.Context.{Mode, is-strict, seen, read-text, read-aad-pair, read-next-aad-pair, read-aad-by, read-aad, read-aad-of, read-aad-section, read-aad-section-into}
 use Rattle.format.specs.Keys.{Max, read-encrypted-data-key, read-encrypted-data-keys-section, read-encrypted-data-keys-section-into}
 use Rattle.format.specs.Places.{number-here, number8, number16, number32, part-of, entry-here, entry-end, items-end, pair-here, pair-end, pairs-here, pairs-end, key-here, key-end, section-pairs, section-keys, section-keys-end}
-use Rattle.format.specs.First.{Line, lacks, when, unless, held-list, entry-list, each-list, pair-list, context-list-of, context-list, key-list, keys-list, context-into-list, keys-into-list}
+use Rattle.format.specs.First.{Line, lacks, when, unless, entry-list, each-list, pair-list, context-list-of, context-list, key-list, keys-list, context-into-list, keys-into-list}
 use Rattle.format.proofs.Tests.{never, leb-is, nleb-is, is-leb, is-nleb, eqb-is, is-eqb}
 use Rattle.format.proofs.Lines.{first-line, one-none, join-none, behind-line, behind-list, Goes, goes-as, return-goes, bind-goes, test-goes, not-goes, held-goes, read-goes, repeat-goes, framed-goes}
 

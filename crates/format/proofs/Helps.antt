@@ -4,12 +4,12 @@ use mathlib.Core.Path.{_≡_, refl, sym, ap, _∙_}
 use mathlib.Core.Bool.{Bool, true, false, not}
 use mathlib.Core.Logic.{_⊎_, inl, inr}
 use mathlib.Core.List.{List, [], _∷_, _++_}
-use Prim.Native.Nat.{ℕ, zero, suc, _+_, _-_, _≤_, _<_}
+use Prim.Native.Nat.{ℕ, zero, suc, _+_, _≤_, _<_}
 use native.Mathlib.Omega.{arith}
 use lib.Dec.{leb, ltb, eqb}
 use lib.ListN.{length, drop, length-drop}
-use Rattle.format.specs.Read.{ReadResult, success, more-needed, error, Reader, go-on, _>>=_, _>>_, return, test, End, end-at, held, repeat, framed, Answer, accepted, refused, answer, at, operation}
-use Rattle.format.specs.Serialize.{Part, read, read-uint, read-uint16, read-short-length-seq}
+use Rattle.format.specs.Read.{ReadResult, success, more-needed, error, Reader, go-on, _>>=_, _>>_, return, test, end-at, held, repeat, framed, Answer, refused, answer, at, operation}
+use Rattle.format.specs.Serialize.{read, read-uint, read-uint16, read-short-length-seq}
 use Rattle.format.specs.Fields.{PairAt}
 use Rattle.format.specs.Context.{Mode, read-text, read-aad-pair, read-next-aad-pair, read-aad-by, read-aad, read-aad-of, read-aad-section, read-aad-section-into}
 use Rattle.format.specs.Places.{number16, entry-end}

@@ -6,7 +6,7 @@ use Prim.Native.Nat.{ℕ, _+_, _-_, _≤_}
 use native.Mathlib.Omega.{arith}
 use lib.Dec.{eqb}
 use lib.ListN.{length, drop, length-drop}
-use Rattle.format.specs.Read.{ReadResult, success, more-needed, error, Reader, _>>=_, _>>_, return, test, End, no-end, end-at, held, repeat, Answer, refused, answer, operation}
+use Rattle.format.specs.Read.{ReadResult, success, more-needed, error, Reader, _>>=_, _>>_, return, test, End, no-end, end-at, repeat, Answer, refused, answer, operation}
 use Rattle.format.specs.Serialize.{Part, read-uint, read-uint8, read-uint16, read-uint32, read-short-length-seq, same-bytes}
 use Rattle.format.specs.Shared.{read-message-format-version, read-esdk-suite-id, read-content-type, frame-fits}
 use Rattle.format.specs.Fields.{PairAt}

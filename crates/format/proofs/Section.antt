@@ -3,12 +3,11 @@ use mathlib.Core.Path.{_≡_, refl, sym, subst, _∙_}
 use mathlib.Core.Bool.{Bool, true, false}
 use mathlib.Core.Logic.{_⊎_, inl, inr}
 use mathlib.Core.List.{List, _++_}
-use Prim.Native.Nat.{ℕ, _+_, _≤_, _<_}
+use Prim.Native.Nat.{ℕ, _+_, _<_}
 use native.Mathlib.Omega.{arith}
 use lib.Dec.{leb, eqb}
 use lib.ListN.{length}
-use Rattle.format.specs.Read.{ReadResult, success, more-needed, error, Reader, go-on, _>>=_, _>>_, return, test, End, no-end, end-at, held, framed}
-use Rattle.format.specs.Fields.{PairAt}
+use Rattle.format.specs.Read.{ReadResult, success, more-needed, error, Reader, go-on, _>>=_, _>>_, return, test, End, end-at, held, framed}
 use Rattle.format.specs.Context.{Mode, read-aad-by, read-aad, read-aad-of, read-aad-section}
 use Rattle.format.specs.Source.{source-read-next-aad-pair, source-read-aad-of}
 use Rattle.format.proofs.Tests.{is-leb, is-nleb, neqb-is}

@@ -2,12 +2,11 @@
 use mathlib.Core.Path.{_≡_, refl, sym, ap, _∙_}
 use mathlib.Core.Bool.{Bool, true, false}
 use mathlib.Core.Logic.{_⊎_, inl, inr}
-use mathlib.Core.List.{List, [], _∷_, _++_}
+use mathlib.Core.List.{List, [], _∷_}
 use Prim.Native.Nat.{ℕ, _+_}
-use native.Mathlib.Omega.{arith}
 use lib.Dec.{eqb}
 use lib.ListN.{length, drop}
-use Rattle.format.specs.Read.{ReadResult, success, more-needed, error, Reader, go-on, _>>=_, Answer, accepted, refused, answer, at, addressable, operation}
+use Rattle.format.specs.Read.{ReadResult, success, more-needed, error, Reader, go-on, _>>=_, Answer, refused, answer, at, addressable, operation}
 use Rattle.format.specs.Serialize.{Bytes}
 use Rattle.format.specs.Context.{Mode, tolerant, read-aad-section, read-aad-section-into, find-value}
 use Rattle.format.specs.OnlyAuthenticated.{write-only-authenticated}
@@ -17,7 +16,7 @@ use Rattle.format.specs.Refusals.{section-refusals, context-refusals, fi
 use Rattle.format.specs.Source.{source-read-aad-section, source-read-aad-section-into, source-find-value, source-write-only-authenticated, source-after-opening, source-read-body}
 use Rattle.format.specs.SourceEquality.{Beside, SourceEquality}
 use Rattle.format.proofs.Messages.{bytes-drop, refused-is-no-accepted}
-use Rattle.format.proofs.Section.{Refuses, Alike, of-alike}
+use Rattle.format.proofs.Section.{Alike, of-alike}
 use Rattle.format.proofs.Members.{has, has-neither, no-member}
 use Rattle.format.proofs.Listed.{body-without-13, section-without, refusals}
 use Rattle.format.proofs.Wanted.{Near, Wants, uint16-wants, opening-wants}

@@ -4,7 +4,7 @@ use mathlib.Core.Bool.{Bool, true, false}
 use mathlib.Core.List.{List, [], _∷_, _++_}
 use Prim.Native.Nat.{ℕ}
 use lib.Dec.{eqb}
-use Rattle.format.specs.Read.{Reader, return, no-end, refused, operation}
+use Rattle.format.specs.Read.{Reader, no-end, refused, operation}
 use Rattle.format.specs.Fields.{PairAt}
 use Rattle.format.specs.Context.{Mode, tolerant, read-aad-by}
 use Rattle.format.specs.OnlyAuthenticated.{fitting}

@@ -2,9 +2,9 @@
 use mathlib.Core.Bool.{Bool, true, false, _&&_, _||_, not}
 use mathlib.Core.List.{List, [], _∷_, _++_, map}
 use Prim.Native.Nat.{ℕ, _+_, _*_}
-use lib.Dec.{leb, ltb, eqb}
+use lib.Dec.{leb, eqb}
 use lib.ListN.{length}
-use Rattle.format.specs.Read.{ReadResult, success, error, Reader, _>>=_, _>>_, return, test, End, held, repeat, framed}
+use Rattle.format.specs.Read.{success, error, Reader, _>>=_, _>>_, return, test, End, held, repeat, framed}
 use Rattle.format.specs.Serialize.{Part, read-uint16, write-uint16, read-short-length-seq, write-short-length-seq, entry-length, images, sum, same-bytes}
 use Rattle.format.specs.Utf8.{valid-utf8-seq}
 use Rattle.format.specs.Fields.{Pair, PairAt, pair-of}

@@ -7,10 +7,10 @@ use mathlib.Core.List.{List}
 use native.Mathlib.Omega.{arith}
 use lib.Dec.{ltb}
 use lib.ListN.{length}
-use Rattle.format.specs.Read.{no-end, end-at, past, Answer, accepted, refused, at}
+use Rattle.format.specs.Read.{no-end, end-at, past, Answer, refused, at}
 use Rattle.format.specs.Read.{End as Bound}
 use Rattle.format.specs.Serialize.{Part, read-short-length-seq}
-use Rattle.format.specs.Places.{number16, entry-here, entry-end}
+use Rattle.format.specs.Places.{number16, entry-end}
 use Rattle.format.proofs.Tests.{leb-is, nleb-is, is-leb, is-nleb}
 use Rattle.steps.proofs.Numbers.{length-part}
 use Rattle.steps.proofs.Entries.{entry-past-length, entry-no-length, entry-past-bytes, entry-short, entry-got}
