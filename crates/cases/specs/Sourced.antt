@@ -1,5 +1,5 @@
--- Document 01's cases as the source reads them, among them those that document 02 answers by 32 now: they hold the source's reading, which
--- no contract cites, to bytes. Assumes nothing.
+-- What the source's reading answers where ours answers 32, as document 01 had it: so that the source's reading, which no contract cites,
+-- is held to bytes where the two part. Elsewhere they are proved alike (Rattle.format.specs.SourceEquality). Assumes nothing.
 use mathlib.Core.Path.{_≡_, refl}
 use mathlib.Core.Bool.{Bool, true}
 use mathlib.Core.List.{List, [], _∷_, _++_}
@@ -7,18 +7,18 @@ use Prim.Native.Nat.{ℕ}
 use lib.ListN.{take}
 use Rattle.format.specs.Read.{operation}
 use Rattle.format.specs.Serialize.{every}
-use Rattle.format.specs.Context.{Mode, tolerant, strict, look-up}
+use Rattle.format.specs.Context.{tolerant, look-up}
 use Rattle.format.specs.Keys.{no-max}
 use Rattle.format.specs.Body.{either, request}
 use Rattle.format.specs.Auth.{zeros}
 use Rattle.format.specs.Lent.{pair-numbers}
 use Rattle.format.specs.Source.{source-read-next-aad-pair, source-read-aad-of, source-read-aad-section, source-read-aad-section-into, source-find-value, source-write-only-authenticated, source-after-opening, source-read-body}
-use Rattle.cases.specs.Cases.{Expected, accepts, refuses, shortage-at, is, body-numbers, H, opened, laid-out}
+use Rattle.cases.specs.Cases.{Expected, refuses, shortage-at, is, body-numbers, H, opened, laid-out}
 use Rattle.cases.specs.Tags.{selecting}
 
 pub data Sourced : Type 0 where
-  -- a context section at start 0
-  section : Mode → List ℕ → Expected → Sourced
+  -- a context section at start 0, read tolerantly
+  section : List ℕ → Expected → Sourced
   -- the empty key's value in one, and what of one is only authenticated where none is required
   find : List ℕ → Expected → Sourced
   select : List ℕ → Expected → Sourced
@@ -29,7 +29,7 @@ abbrev no-numbers : {A : Type 0} → A → List ℕ
 no-numbers a = []
 
 unfoldable pub as-the-source : Sourced → Bool
-as-the-source (section mode m want) = is pair-numbers (operation (source-read-aad-section-into mode 4096) m 0) want
+as-the-source (section m want) = is pair-numbers (operation (source-read-aad-section-into tolerant 4096) m 0) want
 as-the-source (find m want) = is no-numbers (operation (source-find-value []) m 0) want
 as-the-source (select m want) = is (λ bytes. bytes) (operation (source-write-only-authenticated [] [] 0) m 0) want
 as-the-source (body m want) = is body-numbers (operation (source-read-body (request either tolerant true no-max 4096 4096)) m 0) want
@@ -43,25 +43,15 @@ lengthened = past ++ (0x61 ∷ 0x62 ∷ 0x63 ∷ 0x64 ∷ 0x65 ∷ 0x00 ∷ 0x00
 
 unfoldable pub rows : List Sourced
 rows =
-    section tolerant (0x00 ∷ 0x00 ∷ []) (accepts 2 [])
-    ∷ section tolerant (0x00 ∷ 0x02 ∷ 0x00 ∷ 0x00 ∷ []) (accepts 4 [])
-    ∷ section strict (0x00 ∷ 0x02 ∷ 0x00 ∷ 0x00 ∷ []) (refuses 21 0)
-    ∷ section tolerant (0x00 ∷ 0x02 ∷ 0x00 ∷ 0x01 ∷ []) (refuses 8 0)
-    ∷ section tolerant (0x00 ∷ 0x03 ∷ 0x00 ∷ 0x00 ∷ 0x00 ∷ []) (refuses 9 0)
-    ∷ section tolerant (0x00 ∷ 0x01 ∷ 0x00 ∷ []) (shortage-at 4)
-    ∷ section tolerant (0x00 ∷ 0x01 ∷ 0x00 ∷ 0x00 ∷ []) (refuses 9 0)
-    ∷ section tolerant (0x00 ∷ 0x06 ∷ 0x00 ∷ 0x01 ∷ 0x00 ∷ 0x00 ∷ 0x00 ∷ 0x00 ∷ []) (accepts 8 (6 ∷ 0 ∷ 8 ∷ 0 ∷ []))
-    ∷ section tolerant (0x00 ∷ 0x0A ∷ 0x00 ∷ 0x02 ∷ 0x00 ∷ 0x00 ∷ 0x00 ∷ 0x00 ∷ 0x00 ∷ 0x00 ∷ 0x00 ∷ 0x00 ∷ []) (refuses 12 0)
-    ∷ section tolerant (0x00 ∷ 0x08 ∷ 0x00 ∷ 0x01 ∷ 0x00 ∷ 0x02 ∷ 0xC0 ∷ 0x80 ∷ 0x00 ∷ 0x00 ∷ []) (refuses 10 0)
-    ∷ section tolerant past (shortage-at 11)
-    ∷ section tolerant lengthened (refuses 14 0)
-    ∷ section tolerant (0x00 ∷ 0x07 ∷ 0x00 ∷ 0x01 ∷ 0x00 ∷ 0x00 ∷ 0x00 ∷ 0x00 ∷ 0x00 ∷ []) (refuses 14 0)
-    ∷ section tolerant (0xFF ∷ 0xFF ∷ 0x00 ∷ 0x01 ∷ 0xFF ∷ 0xFA ∷ zeros 65532) (refuses 13 0)
+    section (0x00 ∷ 0x01 ∷ 0x00 ∷ []) (shortage-at 4)
+    ∷ section (0x00 ∷ 0x01 ∷ 0x00 ∷ 0x00 ∷ []) (refuses 9 0)
+    ∷ section past (shortage-at 11)
+    ∷ section lengthened (refuses 14 0)
+    ∷ section (0xFF ∷ 0xFF ∷ 0x00 ∷ 0x01 ∷ 0xFF ∷ 0xFA ∷ zeros 65532) (refuses 13 0)
     ∷ find past (shortage-at 11)
-    ∷ find (0x00 ∷ 0x06 ∷ 0x00 ∷ 0x01 ∷ 0x00 ∷ 0x00 ∷ 0x00 ∷ 0x00 ∷ []) (accepts 8 [])
+    ∷ find lengthened (refuses 14 0)
     ∷ select past (shortage-at 11)
-    ∷ select (0x00 ∷ 0x06 ∷ 0x00 ∷ 0x01 ∷ 0x00 ∷ 0x00 ∷ 0x00 ∷ 0x00 ∷ []) (accepts 8 [])
-    ∷ body H (accepts 58 (1 ∷ 0x80 ∷ 0x0178 ∷ 4 ∷ 16 ∷ 26 ∷ 4 ∷ 32 ∷ 2 ∷ 38 ∷ 2 ∷ 42 ∷ 1 ∷ 45 ∷ 3 ∷ 2 ∷ 12 ∷ 4096 ∷ 0 ∷ 0 ∷ []))
+    ∷ select lengthened (refuses 14 0)
     ∷ body (take 20 H ++ past) (shortage-at 31)
     ∷ body (take 20 H ++ lengthened) (refuses 14 0)
     ∷ []

@@ -1,17 +1,18 @@
 -- The ways out of the functions that read a section, one law each. Assumes nothing.
 use mathlib.Core.Path.{_≡_, refl, sym, ap, subst, _∙_}
-use mathlib.Core.Bool.{true, false}
+use mathlib.Core.Bool.{true, false, not, _&&_, _||_}
 use mathlib.Core.List.{List, []}
 use Prim.Native.Nat.{ℕ, suc, _+_, _≤_, _<_}
 use native.Mathlib.Omega.{arith}
 use mir.Syntax.{w64}
 use mir.Val.{Fits}
 use borrow.Author.Tests.{eq-eqb, ne-eqb}
+use lib.Dec.{eqb}
 use lib.ListN.{length}
-use Rattle.format.specs.Read.{end-at, Answer, accepted, refused, repeat, framed, at}
+use Rattle.format.specs.Read.{_>>_, test, end-at, Answer, accepted, refused, repeat, framed, at}
 use Rattle.format.specs.Serialize.{read-uint16}
 use Rattle.format.specs.Fields.{PairAt}
-use Rattle.format.specs.Context.{read-next-aad-pair, read-aad-by, read-aad, read-aad-of, read-aad-section}
+use Rattle.format.specs.Context.{is-strict, read-next-aad-pair, read-aad-by, read-aad, read-aad-of, read-aad-section}
 use Rattle.format.specs.Places.{number16}
 use Rattle.format.proofs.Tests.{leb-is, nleb-is}
 use Rattle.steps.proofs.Tidy.{uint16-tidy}
@@ -50,38 +51,32 @@ module _ (mode : Mode) (m : List ℕ) (s n count : ℕ) (room : 2 ≤ n) (there 
   abbrev aad : Answer (List PairAt)
   aad = at (read-aad (mode-of mode) n (end-at (s + n))) m s
 
-  counted-by : aad ≡ at (read-aad-by (read-next-aad-pair (end-at (s + n))) (mode-of mode) n) m s
-  unfolding read-aad
-  counted-by = held-pass (end-at (s + n)) 2 _ m s (nleb-is (suc (s + n)) (s + 2) (omega arith))
-
   c : at read-uint16 m s ≡ accepted count (s + 2)
   c = uint16-got m s there ∙ ap (λ (k : ℕ). accepted k (s + 2)) (sym is)
 
+  tests : aad
+      ≡ at
+      (test 8 (not (eqb n 2) || eqb count 0) >> (test 21 (not (eqb n 2 && is-strict (mode-of mode))) >> (test 9 (eqb n 2 || not (eqb count 0)) >> repeat count (read-next-aad-pair (end-at (s + n))) [])))
+      m (s + 2)
+  unfolding read-aad read-aad-by
+  tests = held-pass (end-at (s + n)) 2 _ m s (nleb-is (suc (s + n)) (s + 2) (omega arith)) ∙ go _ uint16-tidy m s count (s + 2) c
+
   aad-8 : n ≡ 2 → (count ≡ 0 → ⊥) → aad ≡ refused 8 0
-  unfolding read-aad-by
-  aad-8 h k = counted-by ∙ go _ uint16-tidy m s count (s + 2) c ∙ rw (eq-eqb n 2 h, ne-eqb count 0 k) (fail 8 false _ m (s + 2) refl)
+  aad-8 h k = tests ∙ rw (eq-eqb n 2 h, ne-eqb count 0 k) (fail 8 false _ m (s + 2) refl)
 
   aad-9 : (n ≡ 2 → ⊥) → count ≡ 0 → aad ≡ refused 9 0
-  unfolding read-aad-by
-  aad-9 h k =
-      counted-by ∙ go _ uint16-tidy m s count (s + 2) c
-      ∙ rw (ne-eqb n 2 h, eq-eqb count 0 k) (pass 8 true _ m (s + 2) refl ∙ pass 21 true _ m (s + 2) refl ∙ fail 9 false _ m (s + 2) refl)
+  aad-9 h k = tests ∙ rw (ne-eqb n 2 h, eq-eqb count 0 k) (pass 8 true _ m (s + 2) refl ∙ pass 21 true _ m (s + 2) refl ∙ fail 9 false _ m (s + 2) refl)
 
   aad-many : (n ≡ 2 → ⊥) → (count ≡ 0 → ⊥) → aad ≡ at (repeat count (read-next-aad-pair (end-at (s + n))) []) m (s + 2)
-  unfolding read-aad-by
-  aad-many h k =
-      counted-by ∙ go _ uint16-tidy m s count (s + 2) c
-      ∙ rw (ne-eqb n 2 h, ne-eqb count 0 k) (pass 8 true _ m (s + 2) refl ∙ pass 21 true _ m (s + 2) refl ∙ pass 9 true _ m (s + 2) refl)
+  aad-many h k = tests ∙ rw (ne-eqb n 2 h, ne-eqb count 0 k) (pass 8 true _ m (s + 2) refl ∙ pass 21 true _ m (s + 2) refl ∙ pass 9 true _ m (s + 2) refl)
 
   aad-old : n ≡ 2 → count ≡ 0 → mode ≡ Tolerant → aad ≡ accepted [] (s + 2)
-  unfolding read-aad-by
   aad-old h k e =
-      counted-by ∙ go _ uint16-tidy m s count (s + 2) c
+      tests
       ∙ rw (eq-eqb n 2 h, k, e) (pass 8 true _ m (s + 2) refl ∙ pass 21 true _ m (s + 2) refl ∙ pass 9 true _ m (s + 2) refl ∙ all-read _ (next-pair-tidy (end-at (s + n))) m [] (s + 2))
 
   aad-21 : n ≡ 2 → count ≡ 0 → mode ≡ Strict → aad ≡ refused 21 0
-  unfolding read-aad-by
-  aad-21 h k e = counted-by ∙ go _ uint16-tidy m s count (s + 2) c ∙ rw (eq-eqb n 2 h, k, e) (pass 8 true _ m (s + 2) refl ∙ fail 21 false _ m (s + 2) refl)
+  aad-21 h k e = tests ∙ rw (eq-eqb n 2 h, k, e) (pass 8 true _ m (s + 2) refl ∙ fail 21 false _ m (s + 2) refl)
 
 -- what follows the length
 module _ (mode : Mode) (m : List ℕ) (s n : ℕ) (g : s + n ≤ length m) where

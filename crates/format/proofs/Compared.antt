@@ -6,13 +6,14 @@ use mathlib.Core.Logic.{_⊎_, inl, inr}
 use mathlib.Core.List.{List, [], _∷_, _++_, map}
 use Prim.Native.Nat.{ℕ, zero, suc, _+_, _≤_, _<_}
 use native.Mathlib.Omega.{arith}
-use lib.Dec.{ltb, eqb}
+use lib.Dec.{leb, ltb, eqb}
 use Rattle.format.specs.Read.{ReadResult, success, more-needed, error, Reader, go-on, _>>=_, _>>_, return, test, no-end, end-at, held, repeat}
 use Rattle.format.specs.Serialize.{read, read-uint16, read-short-length-seq, sum}
 use Rattle.format.specs.Fields.{PairAt, pair-of}
 use Rattle.format.specs.Context.{pair-length, linear-length, pairs-limit, Mode, is-strict, read-text, read-aad-pair, read-next-aad-pair, read-aad-by, read-aad}
 use Rattle.format.specs.Source.{source-read-next-aad-pair}
 use Rattle.format.proofs.Tests.{leb-is, is-leb, is-nleb}
+use Rattle.format.proofs.Exact.{held-free, held-fits, held-past}
 use Rattle.format.proofs.Context.{with-one-more}
 use Rattle.format.proofs.Takes.{Past, Takes, any-takes, free-takes, return-takes, test-takes, bind-takes, repeat-takes, read-size, uint16-size, read-takes, uint16-takes, text-takes, next-takes, pair-size, next-size}
 
@@ -44,12 +45,11 @@ module _ {A : Type 0} (e : ℕ) where
   -- ours is held to the end
   held-compared : (n : ℕ) (q q′ : Reader A) (l : List ℕ) (s : ℕ) → (s + n ≤ e → Compared e (q l s) (q′ l s)) → (e < s + n → Past e (q′ l s))
       → Compared e ((held (end-at e) n >> q) l s) ((held no-end n >> q′) l s)
-  unfolding held test _>>_
-  held-compared n q q′ l s within beyond = go (ltb e (s + n)) refl
+  held-compared n q q′ l s within beyond = by (leb (s + n) e) refl
     where
-      go : (b : Bool) → ltb e (s + n) ≡ b → Compared e (go-on (test 32 (not b) l s) (λ u. q)) (q′ l s)
-      go true h = inr (refl, beyond (is-leb _ _ h))
-      go false h = let k : s + n < suc e = is-nleb (suc e) (s + n) h in within (omega arith)
+      by : (b : Bool) → leb (s + n) e ≡ b → Compared e ((held (end-at e) n >> q) l s) ((held no-end n >> q′) l s)
+      by true h = let k = is-leb _ _ h in rw (held-fits e n q l s k, held-free n q′ l s) (within k)
+      by false h = let k = is-nleb _ _ h in rw (held-past e n q l s k, held-free n q′ l s) (inr (refl, beyond k))
 
 module _ {A B : Type 0} (e : ℕ) where
   bind-compared : (x y : ReadResult A) (f f′ : A → Reader B) → Compared e x y → ((a : A) (l : List ℕ) (t : ℕ) → y ≡ success a l t → t ≤ e → Compared e (f a l t) (f′ a l t))

@@ -146,7 +146,11 @@ module _ {A W X : Type 0} where
       → ((x : X) → ok′ x → (w : W) × ok w × (img′ x ≡ img w) × ((s : ℕ) → put′ s x ≡ put s w)) → Exact r ok′ img′ put′
   revalue ok′ img′ put′ h f g = revalue-bytes ok′ img′ put′ h (λ w o hb. f w o) g
 
--- the next n bytes end at e or before, or past it
+-- there is no end; or the next n bytes end at e or before, or past it
+pub held-free : {A : Type 0} (n : ℕ) (q : Reader A) (l : List ℕ) (s : ℕ) → (held no-end n >> q) l s ≡ q l s
+unfolding held test _>>_
+held-free n q l s = refl
+
 module _ {A : Type 0} (e n : ℕ) (q : Reader A) (l : List ℕ) (s : ℕ) where
   pub held-fits : s + n ≤ e → (held (end-at e) n >> q) l s ≡ q l s
   unfolding held test _>>_

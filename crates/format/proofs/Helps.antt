@@ -1,12 +1,12 @@
 -- Inside a section that is there as a whole, nothing that is held to its end is short: so a section wants its length, or itself as a
 -- whole. Assumes nothing.
 use mathlib.Core.Path.{_≡_, refl, sym, ap, _∙_}
-use mathlib.Core.Bool.{Bool, true, false, not}
+use mathlib.Core.Bool.{Bool, true, false}
 use mathlib.Core.Logic.{_⊎_, inl, inr}
 use mathlib.Core.List.{List, [], _∷_, _++_}
 use Prim.Native.Nat.{ℕ, zero, suc, _+_, _≤_, _<_}
 use native.Mathlib.Omega.{arith}
-use lib.Dec.{leb, ltb, eqb}
+use lib.Dec.{leb, eqb}
 use lib.ListN.{length, drop, length-drop}
 use Rattle.format.specs.Read.{ReadResult, success, more-needed, error, Reader, go-on, _>>=_, _>>_, return, test, end-at, held, repeat, framed, Answer, refused, answer, at, operation}
 use Rattle.format.specs.Serialize.{read, read-uint, read-uint16, read-short-length-seq}
@@ -14,7 +14,7 @@ use Rattle.format.specs.Fields.{PairAt}
 use Rattle.format.specs.Context.{Mode, read-text, read-aad-pair, read-next-aad-pair, read-aad-by, read-aad, read-aad-of, read-aad-section, read-aad-section-into}
 use Rattle.format.specs.Places.{number16, entry-end}
 use Rattle.format.proofs.Tests.{is-leb, is-nleb}
-use Rattle.format.proofs.Exact.{framed-fits, framed-short}
+use Rattle.format.proofs.Exact.{held-fits, held-past, framed-fits, framed-short}
 use Rattle.format.proofs.Serialize.{read-fits, read-short}
 use Rattle.format.proofs.Takes.{uint16-size}
 use Rattle.format.proofs.Lines.{goes-accepted}
@@ -43,12 +43,11 @@ module _ {A : Type 0} (e : ℕ) where
 
   -- behind the test of the end it is known that the bytes lie before it
   held-reaches : (n : ℕ) (q : Reader A) → ((l : List ℕ) (s : ℕ) → e ≤ s + length l → s + n ≤ e → Full e (q l s)) → Reaches (held (end-at e) n >> q)
-  unfolding held test _>>_
-  held-reaches n q h = record { full = λ l s g. go l s g (ltb e (s + n)) refl }
+  held-reaches n q h = record { full = λ l s g. by l s g (leb (s + n) e) refl }
     where
-      go : (l : List ℕ) (s : ℕ) → e ≤ s + length l → (b : Bool) → ltb e (s + n) ≡ b → Full e (go-on (test 32 (not b) l s) (λ u. q))
-      go l s g true k = tt
-      go l s g false k = let j : s + n < suc e = is-nleb (suc e) (s + n) k in h l s g (omega arith)
+      by : (l : List ℕ) (s : ℕ) → e ≤ s + length l → (b : Bool) → leb (s + n) e ≡ b → Full e ((held (end-at e) n >> q) l s)
+      by l s g true j = let k = is-leb _ _ j in rw (held-fits e n q l s k) (h l s g k)
+      by l s g false j = let k = is-nleb _ _ j in rw (held-past e n q l s k) tt
 
 module _ {A B : Type 0} (e : ℕ) where
   goes-on : (f : A → Reader B) → ((a : A) → Reaches e (f a)) → (x : ReadResult A) → Full e x → Full e (go-on x f)
@@ -91,68 +90,68 @@ module _ (e : ℕ) where
   aad-reaches mode n =
       held-reaches e 2 _ (λ l s h k. goes-on e _ (λ count. test-reaches e 8 _ (test-reaches e 21 _ (test-reaches e 9 _ (pairs-reach count [])))) (read-uint16 l s) (uint16-full l s h k))
 
--- what a result wants
-abbrev Wants : {A : Type 0} → (ℕ → Type 0) → ReadResult A → Type 0
-Wants P (success a l t) = Unit {0}
-Wants P (more-needed p) = P p
-Wants P (error k) = Unit {0}
+-- a result that is short wants what P says
+abbrev Asks : {A : Type 0} → (ℕ → Type 0) → ReadResult A → Type 0
+Asks P (success a l t) = Unit {0}
+Asks P (more-needed p) = P p
+Asks P (error k) = Unit {0}
 
-full-wants : {A : Type 0} (P : ℕ → Type 0) (e : ℕ) (x : ReadResult A) → Full e x → Wants P x
-full-wants P e (success a l t) h = tt
-full-wants P e (more-needed p) h = absurd h
-full-wants P e (error k) h = tt
+full-asks : {A : Type 0} (P : ℕ → Type 0) (e : ℕ) (x : ReadResult A) → Full e x → Asks P x
+full-asks P e (success a l t) h = tt
+full-asks P e (more-needed p) h = absurd h
+full-asks P e (error k) h = tt
 
-wants-on : {A B : Type 0} (P : ℕ → Type 0) (f : A → Reader B) → ((a : A) (l : List ℕ) (t : ℕ) → Wants P (f a l t)) → (x : ReadResult A) → Wants P x → Wants P (go-on x f)
-wants-on P f h (success a l t) w = h a l t
-wants-on P f h (more-needed p) w = w
-wants-on P f h (error k) w = tt
+asks-on : {A B : Type 0} (P : ℕ → Type 0) (f : A → Reader B) → ((a : A) (l : List ℕ) (t : ℕ) → Asks P (f a l t)) → (x : ReadResult A) → Asks P x → Asks P (go-on x f)
+asks-on P f h (success a l t) w = h a l t
+asks-on P f h (more-needed p) w = w
+asks-on P f h (error k) w = tt
 
-tested : {A : Type 0} (P : ℕ → Type 0) (k : ℕ) (b : Bool) (a : A) (l : List ℕ) (t : ℕ) → Wants P ((test k b >> return a) l t)
+tested : {A : Type 0} (P : ℕ → Type 0) (k : ℕ) (b : Bool) (a : A) (l : List ℕ) (t : ℕ) → Asks P ((test k b >> return a) l t)
 unfolding test return _>>_
 tested P k true a l t = tt
 tested P k false a l t = tt
 
-read-wants : (n : ℕ) (l : List ℕ) (s : ℕ) → Wants (λ p. p ≡ s + n) (read n l s)
-read-wants n l s = by (leb n (length l)) refl
+read-asks : (n : ℕ) (l : List ℕ) (s : ℕ) → Asks (λ p. p ≡ s + n) (read n l s)
+read-asks n l s = by (leb n (length l)) refl
   where
-    by : (b : Bool) → leb n (length l) ≡ b → Wants (λ p. p ≡ s + n) (read n l s)
+    by : (b : Bool) → leb n (length l) ≡ b → Asks (λ p. p ≡ s + n) (read n l s)
     by true h = rw (read-fits n l s (is-leb _ _ h)) tt
     by false h = rw (read-short n l s (is-nleb _ _ h)) refl
 
-uint16-wants : (l : List ℕ) (s : ℕ) → Wants (λ p. p ≡ s + 2) (read-uint16 l s)
+uint16-asks : (l : List ℕ) (s : ℕ) → Asks (λ p. p ≡ s + 2) (read-uint16 l s)
 unfolding read-uint16 read-uint return _>>=_
-uint16-wants l s = wants-on (λ p. p ≡ s + 2) _ (λ p l t. tt) (read 2 l s) (read-wants 2 l s)
+uint16-asks l s = asks-on (λ p. p ≡ s + 2) _ (λ p l t. tt) (read 2 l s) (read-asks 2 l s)
 
 -- what follows the length n of a section
-of-wants : (mode : Mode) (b : Bool) (n : ℕ) (l : List ℕ) (s : ℕ) → Wants (λ p. p ≡ s + n) (read-aad-of mode b n l s)
+of-asks : (mode : Mode) (b : Bool) (n : ℕ) (l : List ℕ) (s : ℕ) → Asks (λ p. p ≡ s + n) (read-aad-of mode b n l s)
 unfolding read-aad-of return _>>=_ _>>_
-of-wants mode true n l s = tt
-of-wants mode false n l s = by (leb n (length l)) refl
+of-asks mode true n l s = tt
+of-asks mode false n l s = by (leb n (length l)) refl
   where
-    by : (b : Bool) → leb n (length l) ≡ b → Wants (λ p. p ≡ s + n) (framed n 14 (read-aad mode n) l s)
+    by : (b : Bool) → leb n (length l) ≡ b → Asks (λ p. p ≡ s + n) (framed n 14 (read-aad mode n) l s)
     by true h =
         let k : n ≤ length l = is-leb _ _ h in
         rw (framed-fits n 14 (read-aad mode n) l s k)
-        (wants-on (λ p. p ≡ s + n) (λ a l′ t. go-on (test 14 (eqb t (s + n)) l′ t) (λ u. return a)) (λ a l′ t. tested (λ p. p ≡ s + n) 14 (eqb t (s + n)) a l′ t) (read-aad mode n (end-at (s + n)) l s)
-        (full-wants (λ p. p ≡ s + n) (s + n) (read-aad mode n (end-at (s + n)) l s) (aad-reaches (s + n) mode n .full l s (omega arith))))
+        (asks-on (λ p. p ≡ s + n) (λ a l′ t. go-on (test 14 (eqb t (s + n)) l′ t) (λ u. return a)) (λ a l′ t. tested (λ p. p ≡ s + n) 14 (eqb t (s + n)) a l′ t) (read-aad mode n (end-at (s + n)) l s)
+        (full-asks (λ p. p ≡ s + n) (s + n) (read-aad mode n (end-at (s + n)) l s) (aad-reaches (s + n) mode n .full l s (omega arith))))
     by false h = rw (framed-short n 14 (read-aad mode n) l s (is-nleb _ _ h)) refl
 
 module _ (mode : Mode) (m : List ℕ) (s : ℕ) where
   abbrev Helps : ℕ → Type 0
   Helps p = (p ≡ s + 2) ⊎ (p ≡ entry-end m s)
 
-  section-helps : Wants Helps (read-aad-section mode (drop s m) s)
+  section-helps : Asks Helps (read-aad-section mode (drop s m) s)
   unfolding read-aad-section _>>=_ at
-  section-helps = by (read-uint16 (drop s m) s) refl (uint16-wants (drop s m) s)
+  section-helps = by (read-uint16 (drop s m) s) refl (uint16-asks (drop s m) s)
     where
-      as-whole : {A : Type 0} (n t : ℕ) → n ≡ number16 m s → t ≡ s + 2 → (x : ReadResult A) → Wants (λ p. p ≡ t + n) x → Wants Helps x
+      as-whole : {A : Type 0} (n t : ℕ) → n ≡ number16 m s → t ≡ s + 2 → (x : ReadResult A) → Asks (λ p. p ≡ t + n) x → Asks Helps x
       as-whole n t a b (success c l u) w = tt
       as-whole n t a b (more-needed p) w = inr (w ∙ rw (a, b) refl)
       as-whole n t a b (error k) w = tt
 
-      by : (x : ReadResult ℕ) → read-uint16 (drop s m) s ≡ x → Wants (λ p. p ≡ s + 2) x → Wants Helps (go-on x (λ n. read-aad-of mode (eqb n 0) n))
+      by : (x : ReadResult ℕ) → read-uint16 (drop s m) s ≡ x → Asks (λ p. p ≡ s + 2) x → Asks Helps (go-on x (λ n. read-aad-of mode (eqb n 0) n))
       by (success n l t) e w =
-          as-whole n t (goes-accepted uint16-goes m s n t (ap answer e)) (uint16-size (drop s m) s n l t e) (read-aad-of mode (eqb n 0) n l t) (of-wants mode (eqb n 0) n l t)
+          as-whole n t (goes-accepted uint16-goes m s n t (ap answer e)) (uint16-size (drop s m) s n l t e) (read-aad-of mode (eqb n 0) n l t) (of-asks mode (eqb n 0) n l t)
       by (more-needed p) e w = inl w
       by (error k) e w = tt
 
@@ -166,7 +165,7 @@ section-wants mode room m s p e = cases (read-aad-section-into mode room) m s fa
         let k : _≡_ {A = ℕ} 1 2 = cc in
         absurd (omega arith)
 
-    of : (x : ReadResult (List PairAt)) → Wants (Helps mode m s) x → answer x ≡ refused 2 p → Helps mode m s p
+    of : (x : ReadResult (List PairAt)) → Asks (Helps mode m s) x → answer x ≡ refused 2 p → Helps mode m s p
     of (success a l t) w q = let z : _≡_ {A = ℕ} 0 1 = cc in absurd (omega arith)
     of (more-needed u) w q = let z : u ≡ p = cc in rw z at w
     of (error k) w q =
@@ -177,4 +176,4 @@ section-wants mode room m s p e = cases (read-aad-section-into mode room) m s fa
     near : length m ≤ 4294967295 → s ≤ 4294967295 → operation (read-aad-section-into mode room) m s ≡ answer (read-aad-section-into mode room (drop s m) s) → Helps mode m s p
     near a b q =
         of (read-aad-section-into mode room (drop s m) s)
-        (wants-on (Helps mode m s) _ (λ ps l t. tested (Helps mode m s) 22 _ ps l t) (read-aad-section mode (drop s m) s) (section-helps mode m s)) (sym q ∙ e)
+        (asks-on (Helps mode m s) _ (λ ps l t. tested (Helps mode m s) 22 _ ps l t) (read-aad-section mode (drop s m) s) (section-helps mode m s)) (sym q ∙ e)

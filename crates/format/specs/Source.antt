@@ -1,5 +1,6 @@
 -- EncryptionContext.dfy as its function bodies read: the source holds no part of a context section to the section's end, and tests what
--- the pairs take instead. It is kept to be compared with (specs/SourceEquality); no contract cites it. Assumes nothing.
+-- the pairs take instead. What document 01 adds to the source, the strict mode, the tables and the numbers, is in both readings, so that
+-- they differ in nothing else. It is kept to be compared with (specs/SourceEquality); no contract cites it. Assumes nothing.
 use mathlib.Core.Bool.{Bool, true, false, not}
 use mathlib.Core.List.{List, [], map}
 use Prim.Native.Nat.{ℕ, _+_, _*_}

@@ -63,5 +63,6 @@ source-promises =
       of-find = λ k m s hb r call. by-source found-of found.Refused back-found (λ k p. refl) _ _ (source-equality .of-find k m s hb) r call;
       of-only-authenticated = λ text required room m s hb before after r call.
           leaves written-as write.Refused back-written (λ k p. refl) _ _ (source-equality .of-only-authenticated text required room m s hb) r (call .answer) whole before after call;
+      wants = λ mode room m s before after r call p e. source-equality .wants mode room m s p (back-context _ (because 2 p) (sym (call .answer) ∙ e));
       of-body = body-leaves;
     }

@@ -1,8 +1,9 @@
 -- 'Accepted headers don't change; equality with the source excepts this refusal', of the code: what every call answers and leaves in its
 -- tables and outputs, by its contract, against the source's reading. Proved in proofs/Source. Assumes nothing.
-use Prim.Native.Nat.{ℕ}
+use Prim.Native.Nat.{ℕ, _+_}
 use mathlib.Core.Path.{_≡_}
 use mathlib.Core.List.{List}
+use mathlib.Core.Logic.{_⊎_}
 use lib.ListN.{length}
 use Rattle.format.specs.Read.{Answer, refused, operation}
 use Rattle.format.specs.Serialize.{Bytes}
@@ -12,6 +13,7 @@ use Rattle.format.specs.Keys.{Max}
 use Rattle.format.specs.Body.{Which, tests-frames, request}
 use Rattle.format.specs.Lent.{table-after, pair-numbers, pair-table-after, key-table-after}
 use Rattle.format.specs.OnlyAuthenticated.{write-only-authenticated}
+use Rattle.format.specs.Places.{entry-end}
 use Rattle.format.specs.Source.{source-read-aad-section-into, source-find-value, source-write-only-authenticated, source-read-body}
 use Rattle.wire.specs.Codes.{because}
 use Rattle.wire.specs.declared.Refusal.{Refusal}
@@ -56,4 +58,7 @@ pub record SourcePromises : Type 0 where
   pub of-only-authenticated : (text required : List ℕ) (room : ℕ) (m : List ℕ) (s : ℕ) → Bytes m → (before after : List ℕ) (r : WriteAnswer)
       → Reads written-as whole (operation (write-only-authenticated text required room) m s) before after r
       → Leaves written-as write.Refused whole (operation (source-write-only-authenticated text required room) m s) before after r
+  -- a section that is short wants its length, or itself as a whole
+  pub wants : (mode : Mode) (room : ℕ) (m : List ℕ) (s : ℕ) (before after : List ℕ) (r : ContextAnswer) → Reads context-of pair-numbers (operation (read-aad-section-into mode room) m s) before after r
+      → (p : ℕ) → r ≡ context.Refused (because 2 p) → (p ≡ s + 2) ⊎ (p ≡ entry-end m s)
   pub of-body : (which : Which) (mode : Mode) (max : Max) (m : List ℕ) (s : ℕ) (c : Call) → Bytes m → Meets (reading which mode max m s c) c → BodyLeaves (source-reading which mode max m s c) c

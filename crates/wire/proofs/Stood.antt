@@ -1,12 +1,11 @@
 -- What was read stands where the answer says; and a text, of an entry. Assumes nothing.
-use Prim.Native.Nat.{ℕ, suc, _+_, _≤_, _<_}
+use Prim.Native.Nat.{ℕ, _+_, _≤_, _<_}
 use mathlib.Core.Path.{_≡_, sym, ap, _∙_}
 use mathlib.Core.Bool.{Bool, true, false}
 use mathlib.Core.List.{List}
 use native.Mathlib.Omega.{arith}
 use lib.ListN.{length, take, drop}
-use Rattle.format.specs.Read.{End, end-at, Answer, accepted, at}
-use Rattle.format.proofs.Tests.{is-nleb}
+use Rattle.format.specs.Read.{End, Answer, accepted, at}
 use Rattle.format.specs.Serialize.{Part, read-uint8, read-uint16, read-uint32, read-short-length-seq}
 use Rattle.format.specs.Utf8.{valid-utf8-seq}
 use Rattle.format.specs.Context.{read-text}
@@ -76,13 +75,6 @@ module _ (m : List ℕ) (at′ : ℕ) (x : Span) (s n t : ℕ) (b : x ≡ span.A
 
       pub text-near : (k : ℕ) → x ≡ span-of (at (read-text e k) m at′) → t < 4294967296
       text-near k f = let y = text-stood k f in omega arith
-
-  -- a text that was read ends within its end
-  pub text-held : (e k : ℕ) → x ≡ span-of (at (read-text (end-at e) k) m at′) → t ≤ e
-  text-held e k f =
-      let g = span-got (at (read-text (end-at e) k) m at′) x f s n t b in
-      let z : t < suc e = is-nleb (suc e) t (text-known (end-at e) k m at′ (g .item) t (g .is) .1) in
-      omega arith
 
 -- a text
 module _ (m : List ℕ) (s : ℕ) (e : End) (k : ℕ) (x : Span) (is : x ≡ span-of (at (read-short-length-seq e) m s)) where
