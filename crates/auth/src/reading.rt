@@ -34,7 +34,7 @@ fn iv_at(m: &[u8], s: u64) -> [u8; Suite::IV_LEN]
     ensures { λ r. ⌜ r ≡ bytes-at (now (m .entry)) s 12 ⌝ }
 {
     let mut iv = [0u8; Suite::IV_LEN];
-    writing::put_bytes(m, s as usize, Suite::IV_LEN, &mut iv, 0);
+    writing::write(m, s as usize, Suite::IV_LEN, &mut iv, 0);
     iv
 }
 
@@ -43,7 +43,7 @@ fn tag_at(m: &[u8], s: u64) -> [u8; Suite::TAG_LEN]
     ensures { λ r. ⌜ r ≡ bytes-at (now (m .entry)) s 16 ⌝ }
 {
     let mut tag = [0u8; Suite::TAG_LEN];
-    writing::put_bytes(m, s as usize, Suite::TAG_LEN, &mut tag, 0);
+    writing::write(m, s as usize, Suite::TAG_LEN, &mut tag, 0);
     tag
 }
 

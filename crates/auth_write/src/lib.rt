@@ -9,7 +9,7 @@ use wire::refusals::IV_LENGTH;
 use wire::refusals::OUTPUT_TOO_SHORT;
 use wire::refusals::TAG_LENGTH;
 use wire::refusals::UNKNOWN_SUITE;
-use wire::writing::put_bytes;
+use wire::writing::write;
 ghost use mathlib.Core.Path.{_≡_};
 ghost use lib.ListN.{length};
 ghost use Rattle.format.specs.Shared.{by};
@@ -47,11 +47,11 @@ fn put_auth(version: u8, iv: &[u8], tag: &[u8], out: &mut [u8])
     ensures { λ _. ⌜ now (out .exit) ≡ stored (now (out .entry)) 0 (auth-image version (now (iv .entry)) (now (tag .entry))) ⌝ }
 {
     if version == 1 {
-        put_bytes(iv, 0, iv.len(), out, 0);
-        put_bytes(tag, 0, tag.len(), out, Suite::IV_LEN);
+        write(iv, 0, iv.len(), out, 0);
+        write(tag, 0, tag.len(), out, Suite::IV_LEN);
         return;
     }
-    put_bytes(tag, 0, tag.len(), out, 0);
+    write(tag, 0, tag.len(), out, 0);
 }
 
 // Write an authentication record: 6; 19; 30; 28. In version 2 the contents of the IV are ignored.

@@ -4,7 +4,7 @@ use crate::BafirolenWritten;
 use crate::writers::wrote;
 use context::FoundAnswer;
 use wire::refusals;
-use wire::writing::put_bytes;
+use wire::writing::write;
 ghost use mathlib.Core.Path.{_≡_};
 ghost use Rattle.format.specs.Read.{operation};
 ghost use Rattle.format.specs.Context.{find-value};
@@ -64,6 +64,6 @@ pub extern "C" fn bafirolen_copy_value(
     if out.len() < n {
         return wrote(refusals::OUTPUT_TOO_SHORT, 0, 0);
     }
-    put_bytes(value, 0, n, out, 0);
+    write(value, 0, n, out, 0);
     wrote(0, 0, n as u64)
 }

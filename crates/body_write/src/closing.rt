@@ -9,9 +9,9 @@ use wire::refusals::CONTENT_TYPE;
 use wire::refusals::FRAME_LENGTH;
 use wire::refusals::IV_LENGTH;
 use wire::refusals::SUITE_DATA_LENGTH;
-use wire::writing::put_bytes;
-use wire::writing::put_u8;
-use wire::writing::put_u32;
+use wire::writing::write;
+use wire::writing::write_uint8;
+use wire::writing::write_uint32;
 ghost use mathlib.Core.Path.{_≡_};
 ghost use mathlib.Core.Bool.{true, false};
 ghost use mathlib.Core.List.{[]};
@@ -57,19 +57,19 @@ fn put_closing_v1(content: u8, iv: u8, frame: u32, out: &mut [u8])
     requires { ⌜ 10 ≤ length (now out) ⌝ }
     ensures { λ _. ⌜ now (out .exit) ≡ stored (now (out .entry)) 0 (write-closing true content iv frame []) ⌝ }
 {
-    put_u8(out, 0, content);
-    put_u32(out, 1, 0);
-    put_u8(out, 5, iv);
-    put_u32(out, 6, frame);
+    write_uint8(out, 0, content);
+    write_uint32(out, 1, 0);
+    write_uint8(out, 5, iv);
+    write_uint32(out, 6, frame);
 }
 
 fn put_closing_v2(content: u8, frame: u32, suiteData: &[u8], out: &mut [u8])
     requires { ⌜ 5 + length (now suiteData) ≤ length (now out) ⌝ }
     ensures { λ _. ⌜ now (out .exit) ≡ stored (now (out .entry)) 0 (write-closing false content 0 frame (now (suiteData .entry))) ⌝ }
 {
-    put_u8(out, 0, content);
-    put_u32(out, 1, frame);
-    put_bytes(suiteData, 0, suiteData.len(), out, 5);
+    write_uint8(out, 0, content);
+    write_uint32(out, 1, frame);
+    write(suiteData, 0, suiteData.len(), out, 5);
 }
 
 pub fn put_closing(

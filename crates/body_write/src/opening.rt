@@ -10,9 +10,9 @@ use wire::refusals::MESSAGE_TYPE;
 use wire::refusals::SUITE_OF_OTHER_VERSION;
 use wire::refusals::UNKNOWN_SUITE;
 use wire::refusals::UNKNOWN_VERSION;
-use wire::writing::put_bytes;
-use wire::writing::put_u8;
-use wire::writing::put_u16;
+use wire::writing::write;
+use wire::writing::write_uint8;
+use wire::writing::write_uint16;
 ghost use mathlib.Core.Path.{_≡_};
 ghost use mathlib.Core.Bool.{true, false};
 ghost use Prim.Native.Nat.{_+_, _≤_, _<_};
@@ -61,19 +61,19 @@ fn put_opening_v1(version: u8, kind: u8, suite: u16, id: &[u8], out: &mut [u8])
     requires { ⌜ 4 + length (now id) ≤ length (now out) ⌝ }
     ensures { λ _. ⌜ now (out .exit) ≡ stored (now (out .entry)) 0 (write-opening true version kind suite (now (id .entry))) ⌝ }
 {
-    put_u8(out, 0, version);
-    put_u8(out, 1, kind);
-    put_u16(out, 2, suite);
-    put_bytes(id, 0, id.len(), out, 4);
+    write_uint8(out, 0, version);
+    write_uint8(out, 1, kind);
+    write_uint16(out, 2, suite);
+    write(id, 0, id.len(), out, 4);
 }
 
 fn put_opening_v2(version: u8, suite: u16, id: &[u8], out: &mut [u8])
     requires { ⌜ 3 + length (now id) ≤ length (now out) ⌝ }
     ensures { λ _. ⌜ now (out .exit) ≡ stored (now (out .entry)) 0 (write-opening false version 0 suite (now (id .entry))) ⌝ }
 {
-    put_u8(out, 0, version);
-    put_u16(out, 1, suite);
-    put_bytes(id, 0, id.len(), out, 3);
+    write_uint8(out, 0, version);
+    write_uint16(out, 1, suite);
+    write(id, 0, id.len(), out, 3);
 }
 
 pub fn put_opening(version: u32, kind: u32, suite: u32, id: &[u8], out: &mut [u8])

@@ -215,7 +215,7 @@ pub extern "C" fn leaf_put_entry(text: &[u8], start: u64, len: u64, out: &mut [u
     ensures { λ r. ⌜ (r ≡ put-number (now (text .entry)) start len (now (out .entry)) at) × (now (out .exit) ≡ put-output (now (text .entry)) start len (now (out .entry)) at) ⌝ }
 {
     if can_put(text.len() as u64, start, len, out.len() as u64, at) {
-        wire::writing::put_entry(text, start as usize, len as usize, out, at as usize);
+        wire::writing::write_short_length_seq(text, start as usize, len as usize, out, at as usize);
         return 1;
     }
     0

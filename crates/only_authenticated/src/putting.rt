@@ -5,8 +5,8 @@ use checks::refuses;
 use entries::known_entry;
 use index::number;
 use wire::refusals::OUTPUT_TOO_SHORT;
-use wire::writing::put_entry;
-use wire::writing::put_u16;
+use wire::writing::write_short_length_seq;
+use wire::writing::write_uint16;
 ghost use mathlib.Core.Path.{_≡_};
 ghost use Prim.Native.Nat.{_+_, _≤_, _<_};
 ghost use lib.ListN.{length, getD};
@@ -64,9 +64,9 @@ fn put_pair(m: &[u8], s: u64, out: &mut [u8], at: usize) -> usize
 {
     let k = known_entry(m, s);
     let v = known_entry(m, k.tail);
-    put_entry(m, k.start as usize, k.len as usize, out, at);
+    write_short_length_seq(m, k.start as usize, k.len as usize, out, at);
     let second = at + 2 + k.len as usize;
-    put_entry(m, v.start as usize, v.len as usize, out, second);
+    write_short_length_seq(m, v.start as usize, v.len as usize, out, second);
     second + 2 + v.len as usize
 }
 
@@ -131,7 +131,7 @@ pub(crate) fn write_marked(
     if out.len() < size {
         return refuses(OUTPUT_TOO_SHORT);
     }
-    put_u16(out, 0, count as u16);
+    write_uint16(out, 0, count as u16);
     put_marked(m, first, n, keys, marks, out, 2);
     WriteAnswer::Written(size)
 }

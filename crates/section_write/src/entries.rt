@@ -1,6 +1,6 @@
 // The entries of a table's parts: what both sections hold behind their counts.
 use checks::tables::number;
-use wire::writing::put_entry;
+use wire::writing::write_short_length_seq;
 ghost use mathlib.Core.Path.{_≡_};
 ghost use mathlib.Core.Bool.{true};
 ghost use Prim.Native.Nat.{_+_, _≤_, _<_};
@@ -17,7 +17,7 @@ fn put_part(text: &[u8], table: &[u32], j: usize, out: &mut [u8], at: usize) -> 
 {
     let start = number(table, j);
     let len = number(table, j + 1);
-    put_entry(text, start, len, out, at);
+    write_short_length_seq(text, start, len, out, at);
     at + 2 + len
 }
 

@@ -9,7 +9,7 @@ use checks::pairs::check_pairs;
 use checks::refuses;
 use checks::tables::entries_size;
 use wire::refusals::OUTPUT_TOO_SHORT;
-use wire::writing::put_u16;
+use wire::writing::write_uint16;
 ghost use mathlib.Core.Path.{_≡_};
 ghost use Prim.Native.Nat.{_+_, _/_, _≤_, _<_};
 ghost use lib.ListN.{length};
@@ -45,8 +45,8 @@ fn put_expanded_aad_section(text: &[u8], pairs: &[u32], out: &mut [u8])
     ensures { λ _. ⌜ now (out .exit) ≡ stored (now (out .entry)) 0 (writing-aad-section (now (text .entry)) (now (pairs .entry)) .image) ⌝ }
 {
     let size = entries_size(pairs);
-    put_u16(out, 0, (2 + size) as u16);
-    put_u16(out, 2, (pairs.len() / 4) as u16);
+    write_uint16(out, 0, (2 + size) as u16);
+    write_uint16(out, 2, (pairs.len() / 4) as u16);
     entries::put_entries(text, pairs, out, 4);
 }
 
@@ -56,7 +56,7 @@ pub fn put_aad_section(text: &[u8], pairs: &[u32], out: &mut [u8])
     ensures { λ _. ⌜ now (out .exit) ≡ stored (now (out .entry)) 0 (writing-aad-section (now (text .entry)) (now (pairs .entry)) .image) ⌝ }
 {
     if pairs.len() / 4 == 0 {
-        put_u16(out, 0, 0);
+        write_uint16(out, 0, 0);
         return;
     }
     put_expanded_aad_section(text, pairs, out);
@@ -67,7 +67,7 @@ pub fn put_keys_section(text: &[u8], keys: &[u32], out: &mut [u8])
     requires { ⌜ KeysReady (now text) (now keys) (length (now out)) ⌝ }
     ensures { λ _. ⌜ now (out .exit) ≡ stored (now (out .entry)) 0 (writing-encrypted-data-keys-section (now (text .entry)) (now (keys .entry)) .image) ⌝ }
 {
-    put_u16(out, 0, (keys.len() / 6) as u16);
+    write_uint16(out, 0, (keys.len() / 6) as u16);
     entries::put_entries(text, keys, out, 2);
 }
 

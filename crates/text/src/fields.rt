@@ -2,8 +2,8 @@
 use super::numerals::put_decimal;
 use super::numerals::put_hex;
 use wire::wide;
-use wire::writing::put_bytes;
-use wire::writing::put_u8;
+use wire::writing::write;
+use wire::writing::write_uint8;
 ghost use mathlib.Core.Path.{_≡_};
 ghost use mathlib.Core.List.{[], _∷_};
 ghost use Prim.Native.Nat.{_+_, _*_, _<_};
@@ -15,7 +15,7 @@ fn put_character(c: u8, out: &mut [u8], at: usize) -> usize
     requires { ⌜ Room (now out) at (c ∷ []) ⌝ }
     ensures { λ r. ⌜ Put (c ∷ []) (now (out .entry)) at (now (out .exit)) r ⌝ }
 {
-    put_u8(out, at, c);
+    write_uint8(out, at, c);
     at + 1
 }
 
@@ -23,7 +23,7 @@ pub fn put_word(word: &[u8], out: &mut [u8], at: usize) -> usize
     requires { ⌜ Room (now out) at (now word) ⌝ }
     ensures { λ r. ⌜ Put (now (word .entry)) (now (out .entry)) at (now (out .exit)) r ⌝ }
 {
-    put_bytes(word, 0, word.len(), out, at);
+    write(word, 0, word.len(), out, at);
     at + word.len()
 }
 

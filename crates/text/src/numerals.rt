@@ -1,6 +1,6 @@
 // Numbers and bytes as digits.
-use wire::writing::put_bytes;
-use wire::writing::put_u8;
+use wire::writing::write;
+use wire::writing::write_uint8;
 ghost use mathlib.Core.Path.{_≡_};
 ghost use Prim.Native.Nat.{_+_, _≤_, _<_};
 ghost use lib.ListN.{length};
@@ -40,7 +40,7 @@ pub(crate) fn put_decimal(n: u64, out: &mut [u8], at: usize) -> usize
 {
     let mut text = [0u8; 20];
     let from = spell(n, &mut text);
-    put_bytes(&text, from, 20 - from, out, at);
+    write(&text, from, 20 - from, out, at);
     at + (20 - from)
 }
 
@@ -56,8 +56,8 @@ fn put_hex_byte(b: u8, out: &mut [u8], at: usize)
     requires { ⌜ at + 2 ≤ length (now out) ⌝ }
     ensures { λ _. ⌜ now (out .exit) ≡ stored (now (out .entry)) at (hex-byte b) ⌝ }
 {
-    put_u8(out, at, digit(b / 16));
-    put_u8(out, at + 1, digit(b % 16));
+    write_uint8(out, at, digit(b / 16));
+    write_uint8(out, at + 1, digit(b % 16));
 }
 
 // The bytes of the message from `start` on, two digits each.

@@ -3,3 +3,4 @@ pub mod ReadLaws
 pub mod EndLaws
 pub mod Stood
 pub mod StoreLaws
+pub mod EntryWritten

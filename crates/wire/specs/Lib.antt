@@ -1,2 +1,3 @@
 pub mod Codes
+pub mod EntryWritten
 pub mod Stored

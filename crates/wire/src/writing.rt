@@ -5,9 +5,10 @@ ghost use Prim.Native.Nat.{_+_, _≤_, _<_};
 ghost use lib.ListN.{length};
 ghost use Rattle.format.specs.Serialize.{write-uint16, write-uint32, write-short-length-seq};
 ghost use Rattle.format.specs.Lent.{bytes-at};
+ghost use Rattle.wire.specs.EntryWritten.{EntryWritten};
 ghost use Rattle.wire.specs.Stored.{stored};
 
-pub fn put_u8(out: &mut [u8], at: usize, x: u8)
+pub fn write_uint8(out: &mut [u8], at: usize, x: u8)
     requires { ⌜ at < length (now out) ⌝ }
     ensures { λ _. ⌜ now (out .exit) ≡ stored (now (out .entry)) at (x ∷ []) ⌝ }
 {
@@ -15,21 +16,21 @@ pub fn put_u8(out: &mut [u8], at: usize, x: u8)
 }
 
 // WriteUint16.
-pub fn put_u16(out: &mut [u8], at: usize, x: u16)
+pub fn write_uint16(out: &mut [u8], at: usize, x: u16)
     requires { ⌜ at + 2 ≤ length (now out) ⌝ }
     ensures { λ _. ⌜ now (out .exit) ≡ stored (now (out .entry)) at (write-uint16 x) ⌝ }
 {
-    put_u8(out, at, (x / 256) as u8);
-    put_u8(out, at + 1, (x % 256) as u8);
+    write_uint8(out, at, (x / 256) as u8);
+    write_uint8(out, at + 1, (x % 256) as u8);
 }
 
 // WriteUint32.
-pub fn put_u32(out: &mut [u8], at: usize, x: u32)
+pub fn write_uint32(out: &mut [u8], at: usize, x: u32)
     requires { ⌜ at + 4 ≤ length (now out) ⌝ }
     ensures { λ _. ⌜ now (out .exit) ≡ stored (now (out .entry)) at (write-uint32 x) ⌝ }
 {
-    put_u16(out, at, (x / 65536) as u16);
-    put_u16(out, at + 2, (x % 65536) as u16);
+    write_uint16(out, at, (x / 65536) as u16);
+    write_uint16(out, at + 2, (x % 65536) as u16);
 }
 
 fn copy(src: &[u8], dst: &mut [u8])
@@ -43,8 +44,8 @@ fn copy(src: &[u8], dst: &mut [u8])
     }
 }
 
-// The part of the text that begins at `start`.
-pub fn put_bytes(text: &[u8], start: usize, len: usize, out: &mut [u8], at: usize)
+// Write: the bytes as they are, from the lent text.
+pub fn write(text: &[u8], start: usize, len: usize, out: &mut [u8], at: usize)
     requires { ⌜ (start + len ≤ length (now text)) × (at + len ≤ length (now out)) ⌝ }
     ensures { λ _. ⌜ now (out .exit) ≡ stored (now (out .entry)) at (bytes-at (now (text .entry)) start len) ⌝ }
 {
@@ -53,11 +54,12 @@ pub fn put_bytes(text: &[u8], start: usize, len: usize, out: &mut [u8], at: usiz
     copy(&text[start..end], &mut out[at..to]);
 }
 
-// WriteShortLengthSeq: the length, then the bytes.
-pub fn put_entry(text: &[u8], start: usize, len: usize, out: &mut [u8], at: usize)
+// WriteShortLengthSeq: the length, then the bytes. What that leaves, byte by byte, is specs/EntryWritten; docs/ENTRY-WRITER.md sets the
+// source's steps beside these.
+pub fn write_short_length_seq(text: &[u8], start: usize, len: usize, out: &mut [u8], at: usize)
     requires { ⌜ (start + len ≤ length (now text)) × (len < 65536) × (at + 2 + len ≤ length (now out)) ⌝ }
-    ensures { λ _. ⌜ now (out .exit) ≡ stored (now (out .entry)) at (write-short-length-seq (bytes-at (now (text .entry)) start len)) ⌝ }
+    ensures { λ _. ⌜ (now (out .exit) ≡ stored (now (out .entry)) at (write-short-length-seq (bytes-at (now (text .entry)) start len))) × EntryWritten (now (text .entry)) start len (now (out .entry)) at (now (out .exit)) ⌝ }
 {
-    put_u16(out, at, len as u16);
-    put_bytes(text, start, len, out, at + 2);
+    write_uint16(out, at, len as u16);
+    write(text, start, len, out, at + 2);
 }

@@ -1,9 +1,0 @@
-use Rattle.wire.proofs.StoreLaws.{stored-uint32}
-use borrow.Author.Needs.{needs}
-use Rattle.wire.proofs.writing.put_u32.Statement.{statement}
-use Rattle.wire.proofs.writing.put_u32.Tie as tie
-
-ruleset laws = (stored-uint32, needs)
-
-pub put-u32-spec : {M : Type 1} → statement M
-put-u32-spec = tie.close (tie.spec (λ c. search laws) (λ c κs. search laws) (λ c. search laws) (λ c. search laws) (λ c κs. search laws) (λ c. search laws) (λ c. search laws))
