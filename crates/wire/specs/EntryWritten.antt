@@ -9,7 +9,13 @@ use lib.ListN.{length, getD}
 abbrev pub byte : List ℕ → ℕ → ℕ
 byte l i = getD l i 0
 
--- The n bytes of the text from start on were written as an entry at a place of an output, which held `before` and holds `after`.
+-- Where it is promised: for any part of the text of at most 65,535 bytes, and any output with room for its entry at a place.
+pub record RoomForEntry (text : List ℕ) (start n : ℕ) (out : List ℕ) (at : ℕ) : Type 0 where
+  pub part : start + n ≤ length text
+  pub short : n < 65536
+  pub room : at + 2 + n ≤ length out
+
+-- What is promised: the n bytes of the text from start on were written as an entry at a place of an output, which held `before` and holds `after`.
 pub record EntryWritten (text : List ℕ) (start n : ℕ) (before : List ℕ) (at : ℕ) (after : List ℕ) : Type 0 where
   -- the length's high byte and low byte at that place
   pub high : byte after at ≡ n / 256

@@ -5,7 +5,7 @@ ghost use Prim.Native.Nat.{_+_, _≤_, _<_};
 ghost use lib.ListN.{length};
 ghost use Rattle.format.specs.Serialize.{write-uint16, write-uint32, write-short-length-seq};
 ghost use Rattle.format.specs.Lent.{bytes-at};
-ghost use Rattle.wire.specs.EntryWritten.{EntryWritten};
+ghost use Rattle.wire.specs.EntryWritten.{RoomForEntry, EntryWritten};
 ghost use Rattle.wire.specs.Stored.{stored};
 
 pub fn write_uint8(out: &mut [u8], at: usize, x: u8)
@@ -57,7 +57,7 @@ pub fn write(text: &[u8], start: usize, len: usize, out: &mut [u8], at: usize)
 // WriteShortLengthSeq: the length, then the bytes. What that leaves, byte by byte, is specs/EntryWritten; docs/ENTRY-WRITER.md sets the
 // source's steps beside these.
 pub fn write_short_length_seq(text: &[u8], start: usize, len: usize, out: &mut [u8], at: usize)
-    requires { ⌜ (start + len ≤ length (now text)) × (len < 65536) × (at + 2 + len ≤ length (now out)) ⌝ }
+    requires { ⌜ RoomForEntry (now text) start len (now out) at ⌝ }
     ensures { λ _. ⌜ (now (out .exit) ≡ stored (now (out .entry)) at (write-short-length-seq (bytes-at (now (text .entry)) start len))) × EntryWritten (now (text .entry)) start len (now (out .entry)) at (now (out .exit)) ⌝ }
 {
     write_uint16(out, at, len as u16);
