@@ -15,7 +15,7 @@ use Rattle.format.specs.Lent.{bytes-at}
 use Rattle.steps.proofs.Numbers.{length-part}
 use Rattle.wire.specs.Stored.{stored}
 use Rattle.wire.specs.EntryWritten.{EntryWritten, NothingFree, byte}
-use Rattle.wire.proofs.StoreLaws.{length-stored, drop-stored, stored-entry}
+use Rattle.wire.proofs.StoreLaws.{length-stored, drop-stored, two-bytes, length-then-bytes, stored-entry}
 
 first-of : (l : List ℕ) (i : ℕ) → byte l i ≡ byte (drop i l) 0
 first-of l i = ap (byte l) (sym (add-zero i)) ∙ sym (getD-drop i l 0 0)
@@ -50,10 +50,7 @@ module _ (text : List ℕ) (start n : ℕ) (part : start + n ≤ length text) (s
   entry = write-short-length-seq (bytes-at text start n)
 
   entry-is : entry ≡ (n / 256 ∷ n % 256 ∷ []) ++ bytes-at text start n
-  unfolding write-short-length-seq write-uint16
-  entry-is =
-      let e : n / 256 % 256 ≡ n / 256 = omega arith in
-      rw (length-part text start n part, e) refl
+  entry-is = sym (length-then-bytes text start n part) ∙ ap (λ (l : List ℕ). l ++ bytes-at text start n) (sym (two-bytes n short))
 
   entry-size : length entry ≡ 2 + n
   entry-size = length-entry (bytes-at text start n) ∙ ap (λ (k : ℕ). 2 + k) (length-part text start n part)

@@ -63,7 +63,7 @@ stored-both : (d o p : List ℕ) (s t : ℕ) (a b image : List ℕ) → o ≡ st
 stored-both d o p s t a b image e f g h k = f ∙ ap (λ (l : List ℕ). stored l t b) e ∙ stored-more d s a b t g h ∙ ap (stored d s) k
 
 -- the bytes of 16 bits, and of 32 bits as twice 16
-two-bytes : (x : ℕ) → x < 65536 → x / 256 ∷ x % 256 ∷ [] ≡ write-uint16 x
+pub two-bytes : (x : ℕ) → x < 65536 → x / 256 ∷ x % 256 ∷ [] ≡ write-uint16 x
 unfolding write-uint16
 two-bytes x h = let e : x / 256 ≡ x / 256 % 256 = omega arith in ap (λ (y : ℕ). y ∷ x % 256 ∷ []) e
 
@@ -76,6 +76,11 @@ two-halves x =
     let d : x % 65536 % 256 ≡ x % 256 = omega arith in
     rw (a, b, c, d) refl
 
+-- the bytes of an entry
+pub length-then-bytes : (text : List ℕ) (a n : ℕ) → a + n ≤ length text → write-uint16 n ++ take n (drop a text) ≡ write-short-length-seq (take n (drop a text))
+unfolding write-short-length-seq
+length-then-bytes text a n q = ap (λ (k : ℕ). write-uint16 k ++ take n (drop a text)) (sym (length-part text a n q))
+
 module _ (d o p : List ℕ) (s : ℕ) where
   pub stored-uint16 : (x : ℕ) → Fits w16 x → s + 2 ≤ length d → o ≡ stored d s (x / 256 ∷ []) → p ≡ stored o (s + 1) (x % 256 ∷ []) → p ≡ stored d s (write-uint16 x)
   stored-uint16 x fit h e f = stored-both d o p s (s + 1) (x / 256 ∷ []) (x % 256 ∷ []) (write-uint16 x) e f refl (omega arith) (two-bytes x (fit .fits))
@@ -87,11 +92,9 @@ module _ (d o p : List ℕ) (s : ℕ) where
 
   pub stored-entry : (text : List ℕ) (a n : ℕ) → a + n ≤ length text → s + 2 + n ≤ length d → o ≡ stored d s (write-uint16 n) → p ≡ stored o (s + 2) (take n (drop a text))
       → p ≡ stored d s (write-short-length-seq (take n (drop a text)))
-  unfolding write-short-length-seq
   stored-entry text a n q h e f =
       let l = length-uint16 n in
-      stored-both d o p s (s + 2) (write-uint16 n) (take n (drop a text)) (write-short-length-seq (take n (drop a text))) e f (omega arith) (omega arith)
-      (ap (λ (k : ℕ). write-uint16 k ++ take n (drop a text)) (sym (length-part text a n q)))
+      stored-both d o p s (s + 2) (write-uint16 n) (take n (drop a text)) (write-short-length-seq (take n (drop a text))) e f (omega arith) (omega arith) (length-then-bytes text a n q)
 
 -- a copy, byte by byte
 pub copied-none : (d src : List ℕ) → d ≡ take 0 src ++ drop 0 d
