@@ -69,7 +69,7 @@ body-with b t =
     }
 
 abbrev no-numbers : BodyNumbers
-no-numbers = record { version = 0; messageType = 0; suite = 0; contentType = 0; headerIvLength = 0; frameLength = 0 }
+no-numbers = record { version = 0; messageType = 0; suite = 0; contentType = 0; headerIvLength = 0; frameLength = 0; form = 0 }
 
 abbrev pub no-body : ℕ → ℕ → BafirolenBody
 no-body k p =

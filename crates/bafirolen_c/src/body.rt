@@ -22,6 +22,7 @@ fn no_body(q: Refusal) -> BafirolenBody
         contentType: 0,
         headerIvLength: 0,
         frameLength: 0,
+        form: fields::TODAY,
     };
     BafirolenBody {
         number: q.number as u64,

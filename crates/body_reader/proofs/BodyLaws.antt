@@ -7,6 +7,7 @@ use mathlib.Core.Path.{_≡_, refl, sym, ap, _∙_}
 use mathlib.Core.Bool.{Bool, true, false, not, _||_}
 use mathlib.Core.List.{List}
 use lib.Dec.{eqb}
+use borrow.Author.Tests.{eq-eqb, ne-eqb}
 use lib.ListN.{length}
 use Rattle.format.specs.Read.{Answer, accepted, refused, at, addressable, operation}
 use Rattle.format.specs.Serialize.{images}
@@ -24,12 +25,13 @@ use Rattle.request.specs.declared.Mode.{Mode}
 use Rattle.request.specs.declared.Max.{Max}
 use Rattle.context.proofs.Whole as pairs
 use Rattle.keys.proofs.Whole as keys
+use Rattle.fields.specs.Codes.{form-number}
 use Rattle.ends.specs.Codes.{closing-of}
 use Rattle.ends.specs.declared.Opening.{Opening}
 use Rattle.ends.specs.declared.Closing.{Closing}
 use Rattle.ends.proofs.OpeningLaws.{OpeningHad, opening-got}
 use Rattle.ends.proofs.ClosingLaws.{ClosingHad, closing-got}
-use Rattle.body_reader.specs.Codes.{body-of, ReadsBody, body-with, frame-test, why-measure, Stages, Measured}
+use Rattle.body_reader.specs.Codes.{body-of, ReadsBody, form-by, body-with, frame-test, why-measure, Stages, Measured}
 use Rattle.body_reader.specs.declared.HeaderBodyAnswer.{HeaderBodyAnswer}
 use Rattle.body_reader.specs.declared.HeaderBodyAnswer.the-variants as body
 use Rattle.body_reader.specs.declared.MeasureAnswer.{MeasureAnswer}
@@ -41,9 +43,17 @@ use Rattle.body_reader.proofs.MeasureLaws.{opening-near, context-near}
 refuses : (o : Answer BodyRead) (k p : ℕ) (pt kt : List ℕ) (r : HeaderBodyAnswer) → o ≡ refused k p → r ≡ body.Refused (because k p) → ReadsBody o pt pt kt kt r
 refuses o k p pt kt r e f = record { answer = f ∙ sym (rw e); pairTable = sym (rw e); keyTable = sym (rw e) }
 
-same-body : (o o′ : Opening) (np np′ nk nk′ : ℕ) (c c′ : Closing) (t : ℕ) → o ≡ o′ → np ≡ np′ → nk ≡ nk′ → c ≡ c′
-    → body.Accepted (body-with o np nk c) t ≡ body.Accepted (body-with o′ np′ nk′ c′) t
-same-body o o′ np np′ nk nk′ c c′ t p q r s = rw (p, q, r, s)
+same-body : (o o′ : Opening) (form np np′ nk nk′ : ℕ) (c c′ : Closing) (t : ℕ) → o ≡ o′ → np ≡ np′ → nk ≡ nk′ → c ≡ c′
+    → body.Accepted (body-with o form np nk c) t ≡ body.Accepted (body-with o′ form np′ nk′ c′) t
+same-body o o′ form np np′ nk nk′ c c′ t p q r s = rw (p, q, r, s)
+
+-- the mark
+module _ (firstPair end : ℕ) where
+  pub marked-old : end ≡ firstPair → 1 ≡ form-number (form-by firstPair end)
+  marked-old e = rw (eq-eqb _ _ e)
+
+  pub marked-today : (end ≡ firstPair → ⊥) → 0 ≡ form-number (form-by firstPair end)
+  marked-today h = rw (ne-eqb _ _ h)
 
 -- the guard
 module _ (which : Which) (mode : Mode) (max : Max) (m : List ℕ) (start : ℕ) (pt kt : List ℕ) (b : Bool) (is : b ≡ addressable m start) (r : HeaderBodyAnswer) where
@@ -117,15 +127,15 @@ module _ (which : Which) (mode : Mode) (max : Max) (m : List ℕ) (start : ℕ) 
             f
 
         pub body-whole : nk ≤ length kt / 6 → (pt′ kt′ : List ℕ) → pt′ ≡ filled (images place (entries-here m (2 * np) (first + 4))) pt
-            → kt′ ≡ filled (images place (entries-here m (3 * nk) (second + 2))) kt → r ≡ body.Accepted (body-with o np nk c) tail
+            → kt′ ≡ filled (images place (entries-here m (3 * nk) (second + 2))) kt → (form : ℕ) → form ≡ form-number (form-by (first + 4) second) → r ≡ body.Accepted (body-with o form np nk c) tail
             → ReadsBody (at (read-header-body (which-of which) (mode-of mode) (max-of max) (length pt) (length kt)) m start) pt pt′ kt kt′ r
         unfolding read-header-body
-        body-whole j pt′ kt′ p k f =
+        body-whole j pt′ kt′ p k form g f =
             let e =
             at-whole asks m start (opened .item) first (opened .is) (paired .items) second (paired .is) (keyed .items) _ (keyed .is) (closed .item) tail (closed .is) tested (omega (arith, paired .long)) (omega (arith, keyed .long))
             in
             record {
-              answer = f ∙ same-body _ _ _ _ _ _ _ _ tail (sym (opened .coded)) (sym (paired .long)) (sym (keyed .long)) (sym (closed .coded)) ∙ sym (ap body-of e);
+              answer = f ∙ rw g (same-body _ _ _ _ _ _ _ _ _ tail (sym (opened .coded)) (sym (paired .long)) (sym (keyed .long)) (sym (closed .coded))) ∙ sym (ap body-of e);
               pairTable = p ∙ ap (λ (l : List ℕ). filled l pt) (paired .numbers) ∙ sym (ap (λ (x : Answer BodyRead). pair-table-after x pt) e);
               keyTable = k ∙ ap (λ (l : List ℕ). filled l kt) (keyed .numbers) ∙ sym (ap (λ (x : Answer BodyRead). key-table-after x kt) e);
             }

@@ -6,16 +6,34 @@ use mathlib.Core.List.{List}
 use borrow.Author.Tests.{le-leb, lt-leb}
 use lib.Dec.{eqb}
 use lib.ListN.{length}
-use Rattle.format.specs.Read.{accepted, refused, at}
+use Rattle.format.specs.Read.{_>>=_, return, accepted, refused, at}
 use Rattle.format.specs.Shared.{frame-fits}
 use Rattle.format.specs.Fields.{PairAt, EncryptedDataKeyAt}
-use Rattle.format.specs.Context.{read-aad-section}
+use Rattle.format.specs.Context.{Mode, read-aad-section, ContextAt, form-between, mark, with-mark}
 use Rattle.format.specs.Keys.{read-encrypted-data-keys-section}
 use Rattle.format.specs.Body.{Request, Opening, Closing, whole, read-opening, read-closing, after-context, after-opening, read-body}
+use Rattle.steps.proofs.Tidy.{Tidy, bind-tidy, return-tidy}
 use Rattle.steps.proofs.Steps.{go, stop, pass, fail, gives}
 use Rattle.context.proofs.Known.{section-tidy as context-tidy}
 use Rattle.keys.proofs.Known.{section-tidy as keys-tidy}
 use Rattle.ends.proofs.Tidy.{opening-tidy, closing-tidy}
+
+-- a section with its mark
+marked-tidy : (mode : Mode) → Tidy (with-mark (read-aad-section mode))
+unfolding with-mark _>>=_ return
+marked-tidy mode = record { later = λ l s. bind-tidy (context-tidy mode) (mark-tidy s) .later l s }
+  where
+    mark-tidy : (s : ℕ) (ps : List PairAt) → Tidy (mark s ps)
+    mark-tidy s ps = record { later = λ l t. return-tidy {A = ContextAt} (record { form = form-between s t; pairs = ps }) .later l t }
+
+module _ (mode : Mode) (m : List ℕ) (s : ℕ) where
+  marked-stop : (k p : ℕ) → at (read-aad-section mode) m s ≡ refused k p → at (with-mark (read-aad-section mode)) m s ≡ refused k p
+  unfolding with-mark _>>=_ at
+  marked-stop k p e = stop (mark s) (context-tidy mode) m s k p e
+
+  marked-go : (ps : List PairAt) (t : ℕ) → at (read-aad-section mode) m s ≡ accepted ps t → at (with-mark (read-aad-section mode)) m s ≡ accepted (record { form = form-between s t; pairs = ps }) t
+  unfolding with-mark _>>=_ at
+  marked-go ps t e = go (mark s) (context-tidy mode) m s ps t e
 
 module _ (q : Request) (m : List ℕ) (s : ℕ) where
   pub at-opening : (k p : ℕ) → at (read-opening (q .which)) m s ≡ refused k p → at (read-body q) m s ≡ refused k p
@@ -25,12 +43,15 @@ module _ (q : Request) (m : List ℕ) (s : ℕ) where
   module _ (o : Opening) (first : ℕ) (opened : at (read-opening (q .which)) m s ≡ accepted o first) where
     pub at-context : (k p : ℕ) → at (read-aad-section (q .mode)) m first ≡ refused k p → at (read-body q) m s ≡ refused k p
     unfolding read-body after-opening
-    at-context k p e = go _ (opening-tidy (q .which)) m s o first opened ∙ stop _ (context-tidy (q .mode)) m first k p e
+    at-context k p e = go _ (opening-tidy (q .which)) m s o first opened ∙ stop _ (marked-tidy (q .mode)) m first k p (marked-stop (q .mode) m first k p e)
 
     module _ (ps : List PairAt) (second : ℕ) (paired : at (read-aad-section (q .mode)) m first ≡ accepted ps second) where
-      behind-context : at (read-body q) m s ≡ at (after-context q o ps) m second
+      abbrev x : ContextAt
+      x = record { form = form-between first second; pairs = ps }
+
+      behind-context : at (read-body q) m s ≡ at (after-context q o x) m second
       unfolding read-body after-opening
-      behind-context = go _ (opening-tidy (q .which)) m s o first opened ∙ go _ (context-tidy (q .mode)) m first ps second paired
+      behind-context = go _ (opening-tidy (q .which)) m s o first opened ∙ go _ (marked-tidy (q .mode)) m first x second (marked-go (q .mode) m first ps second paired)
 
       pub at-keys : (k p : ℕ) → at (read-encrypted-data-keys-section (q .max)) m second ≡ refused k p → at (read-body q) m s ≡ refused k p
       unfolding after-context
@@ -61,7 +82,7 @@ module _ (q : Request) (m : List ℕ) (s : ℕ) where
                   behind-context ∙ go _ (keys-tidy (q .max)) m second ks third keyed ∙ go _ (closing-tidy (eqb (o .version) 1)) m third c t closed ∙ pass 20 _ _ m t framed
                   ∙ pass 22 _ _ m t (le-leb _ _ held) ∙ fail 23 _ _ m t (lt-leb _ _ h)
 
-              pub at-whole : 6 * length ks ≤ q .keyRoom → at (read-body q) m s ≡ accepted (whole o ps ks c) t
+              pub at-whole : 6 * length ks ≤ q .keyRoom → at (read-body q) m s ≡ accepted (whole o (record { form = form-between first second; pairs = ps }) ks c) t
               unfolding after-context
               at-whole h =
                   behind-context ∙ go _ (keys-tidy (q .max)) m second ks third keyed ∙ go _ (closing-tidy (eqb (o .version) 1)) m third c t closed ∙ pass 20 _ _ m t framed

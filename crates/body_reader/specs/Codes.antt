@@ -1,12 +1,13 @@
 -- The code's answer, of what a body reader answers, and the contracts of reading. Assumes nothing.
 use mathlib.Core.Path.{_≡_}
-use mathlib.Core.Bool.{Bool, true, _||_, not}
+use mathlib.Core.Bool.{Bool, true, _||_, not, cond}
 use mathlib.Core.List.{List}
 use Prim.Native.Nat.{ℕ}
 use lib.Dec.{eqb}
 use lib.ListN.{length}
 use Rattle.format.specs.Read.{Answer, accepted, refused, at}
 use Rattle.format.specs.Shared.{frame-fits}
+use Rattle.format.specs.Fields.{Form, today, old}
 use Rattle.format.specs.Fields.{HeaderBody as BodyRead}
 use Rattle.format.specs.Context.{read-aad-section}
 use Rattle.format.specs.Keys.{read-encrypted-data-keys-section}
@@ -18,6 +19,7 @@ use Rattle.request.specs.Codes.{which-of, mode-of, max-of}
 use Rattle.request.specs.declared.Which.{Which}
 use Rattle.request.specs.declared.Mode.{Mode}
 use Rattle.request.specs.declared.Max.{Max}
+use Rattle.fields.specs.Codes.{form-number}
 use Rattle.fields.specs.declared.BodyNumbers.{BodyNumbers}
 use Rattle.context.specs.Codes.{context-of}
 use Rattle.context.specs.declared.ContextAnswer.the-variants as context
@@ -34,7 +36,7 @@ use Rattle.body_reader.specs.declared.HeaderBodyAnswer.the-variants as b
 use Rattle.body_reader.specs.declared.MeasureAnswer.{MeasureAnswer}
 use Rattle.body_reader.specs.declared.MeasureAnswer.the-variants as measure
 
--- a body's numbers, the places of its ID and suite data, and how many pairs and keys it has
+-- a body's numbers and its mark, the places of its ID and suite data, and how many pairs and keys it has
 abbrev pub numbers-code : BodyRead → BodyNumbers
 numbers-code b =
     record {
@@ -44,6 +46,7 @@ numbers-code b =
       contentType = b .contentType;
       headerIvLength = b .headerIvLength;
       frameLength = b .frameLength;
+      form = form-number (b .form);
     }
 
 abbrev pub body-code : BodyRead → HeaderBody
@@ -68,9 +71,13 @@ pub record ReadsBody (o : Answer BodyRead) (pairs pairs′ keys keys′ : List �
   pub pairTable : pairs′ ≡ pair-table-after o pairs
   pub keyTable : keys′ ≡ key-table-after o keys
 
--- a body's ends and counts, put together
-abbrev numbers-with : Opening → Closing → BodyNumbers
-numbers-with o c =
+-- the mark of a context section whose first pair would start at one place and that ends at another
+abbrev pub form-by : ℕ → ℕ → Form
+form-by firstPair end = cond (eqb end firstPair) old today
+
+-- a body's ends, its mark as a number, and its counts, put together
+abbrev numbers-with : Opening → ℕ → Closing → BodyNumbers
+numbers-with o form c =
     record {
       version = o .version;
       messageType = o .messageType;
@@ -78,12 +85,13 @@ numbers-with o c =
       contentType = c .contentType;
       headerIvLength = c .headerIvLength;
       frameLength = c .frameLength;
+      form = form;
     }
 
-abbrev pub body-with : Opening → ℕ → ℕ → Closing → HeaderBody
-body-with o pairCount keyCount c =
+abbrev pub body-with : Opening → ℕ → ℕ → ℕ → Closing → HeaderBody
+body-with o form pairCount keyCount c =
     record {
-      numbers = numbers-with o c;
+      numbers = numbers-with o form c;
       messageIdStart = o .messageIdStart;
       messageIdLen = o .messageIdLen;
       pairCount = pairCount;

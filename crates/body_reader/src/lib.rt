@@ -5,6 +5,8 @@ use ends::ClosingAnswer;
 use ends::Opening;
 use ends::OpeningAnswer;
 use fields::BodyNumbers;
+use fields::OLD;
+use fields::TODAY;
 use fields::frame_fits;
 use keys::KeysAnswer;
 use request::Request;
@@ -20,7 +22,8 @@ ghost use Rattle.format.specs.Read.{at, operation};
 ghost use Rattle.format.specs.Body.{read-header-body};
 ghost use Rattle.wire.specs.Codes.{because};
 ghost use Rattle.request.specs.Codes.{which-of, mode-of, max-of};
-ghost use Rattle.body_reader.specs.Codes.{ReadsBody, Measured, body-with, frame-test, why-measure};
+ghost use Rattle.fields.specs.Codes.{form-number};
+ghost use Rattle.body_reader.specs.Codes.{ReadsBody, Measured, form-by, body-with, frame-test, why-measure};
 
 // The ID and the suite data by their places in the message, and how many pairs and keys stand in the tables. Type, IV length
 // and suite data are 0 where the version lacks them.
@@ -74,14 +77,25 @@ impl MeasureAnswer {
     }
 }
 
+// An empty context in its old form ends where a first pair would start, and no other section does.
+fn form_of(firstPair: u64, sectionEnd: u64) -> u32
+    ensures { λ r. ⌜ r ≡ form-number (form-by firstPair sectionEnd) ⌝ }
+{
+    if sectionEnd == firstPair {
+        return OLD;
+    }
+    TODAY
+}
+
 fn accepted(
     opening: Opening,
+    form: u32,
     pairCount: u64,
     keyCount: u64,
     closing: Closing,
     tail: u64,
 ) -> HeaderBodyAnswer
-    ensures { λ r. ⌜ r ≡ HeaderBodyAnswer.Accepted (body-with opening pairCount keyCount closing) tail ⌝ }
+    ensures { λ r. ⌜ r ≡ HeaderBodyAnswer.Accepted (body-with opening form pairCount keyCount closing) tail ⌝ }
 {
     let numbers = BodyNumbers {
         version: opening.version,
@@ -90,6 +104,7 @@ fn accepted(
         contentType: closing.contentType,
         headerIvLength: closing.headerIvLength,
         frameLength: closing.frameLength,
+        form,
     };
     let body = HeaderBody {
         numbers,
@@ -203,7 +218,8 @@ fn body_at(
     let keyEntries = 3 * keyCount;
     entries::fill_places(m, firstPair, pairEntries, pairTable);
     entries::fill_places(m, firstKey, keyEntries, keyTable);
-    accepted(opening, pairCount, keyCount, closing, tail)
+    let form = form_of(firstPair, keysStart);
+    accepted(opening, form, pairCount, keyCount, closing, tail)
 }
 
 // Reads the body at `start`. The places of its pairs and keys go into the tables, four numbers a pair and six a key.

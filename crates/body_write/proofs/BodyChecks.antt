@@ -1,5 +1,5 @@
 -- Laws of the checks of a body: its stages, the ways out, and what checks that all pass leave known. Assumes nothing.
-use Prim.Native.Nat.{ℕ, _+_, _<_}
+use Prim.Native.Nat.{ℕ, _+_, _/_, _<_}
 use native.Mathlib.Omega.{arith}
 use mathlib.Core.Path.{_≡_, refl, sym, _∙_}
 use mathlib.Core.Option.{none}
@@ -8,9 +8,10 @@ use lib.Dec.{eqb}
 use lib.ListN.{length}
 use borrow.Author.Tests.{eqb-true}
 use Rattle.format.specs.Shared.{by}
-use Rattle.format.specs.Checks.{Check, first, opening-checks, closing-checks, body-checks}
-use Rattle.format.specs.Lent.{fields-to-write, writing-aad-section, writing-encrypted-data-keys-section, writing-header-body}
+use Rattle.format.specs.Checks.{Check, first, opening-checks, closing-checks, form-checks, body-checks}
+use Rattle.format.specs.Lent.{pair-in, fields-to-write, writing-aad-section, writing-encrypted-data-keys-section, writing-header-body}
 use Rattle.format.proofs.Firsts.{holds}
+use Rattle.format.proofs.Tables.{items-length}
 use Rattle.wire.specs.declared.Refusal.{Refusal}
 use Rattle.checks.specs.Answers.{checked}
 use Rattle.checks.specs.Table.{Passed, entries-size}
@@ -21,7 +22,9 @@ use Rattle.checks.proofs.SectionChecks.{pairs-passed, pairs-few, keys-passed}
 use Rattle.format.proofs.Accepts.{known-narrow}
 use Rattle.body_write.specs.Lent.{body-to-write}
 use Rattle.body_write.specs.Ready.{Small}
+use Rattle.fields.specs.Codes.{form-of, form-named}
 use Rattle.fields.specs.declared.BodyNumbers.{BodyNumbers}
+use Rattle.fields.specs.declared.Form.{Form}
 use Rattle.body_write.proofs.VersionLaws.{one-or-two-small, by-small}
 
 module _ (n : BodyNumbers) (messageId suiteData text pairs keys : List ℕ) where
@@ -34,12 +37,15 @@ module _ (n : BodyNumbers) (messageId suiteData text pairs keys : List ℕ) wher
   abbrev of-pairs : List Check
   of-pairs = writing-aad-section text pairs .checks
 
+  abbrev of-form : List Check
+  of-form = form-checks (form-of (form-named (n .form))) (length pairs / 4)
+
   abbrev of-keys : List Check
   of-keys = writing-encrypted-data-keys-section text keys .checks
 
-  stages : writing-header-body (body-to-write n messageId suiteData text pairs keys) .checks ≡ opens ++ (of-pairs ++ (of-keys ++ closes))
+  stages : writing-header-body (body-to-write n messageId suiteData text pairs keys) .checks ≡ opens ++ (of-pairs ++ (of-form ++ (of-keys ++ closes)))
   unfolding body-to-write writing-header-body fields-to-write body-checks writing-aad-section writing-encrypted-data-keys-section
-  stages = refl
+  stages = rw (items-length (pair-in text pairs) 4 (length pairs / 4) 0) refl
 
   -- the ways out
   module _ (a : Checked) (aIs : a ≡ checked (first (opening-checks (n .version) (n .messageType) (n .suite) (length messageId)))) where
@@ -50,22 +56,34 @@ module _ (n : BodyNumbers) (messageId suiteData text pairs keys : List ℕ) wher
       pub body-pairs : (r : Refusal) → b ≡ Fails r → Fails r ≡ checked (first (writing-header-body (body-to-write n messageId suiteData text pairs keys) .checks))
       body-pairs r e = rw stages (sym (stage-passes opens a aIs _ aPasses ∙ stage-fails of-pairs b bIs _ r e))
 
-      module _ (bPasses : b ≡ Passes) (c : Checked) (cIs : c ≡ checked (first (writing-encrypted-data-keys-section text keys .checks))) where
-        pub body-keys : (r : Refusal) → c ≡ Fails r → Fails r ≡ checked (first (writing-header-body (body-to-write n messageId suiteData text pairs keys) .checks))
-        body-keys r e = rw stages (sym (stage-passes opens a aIs _ aPasses ∙ stage-passes of-pairs b bIs _ bPasses ∙ stage-fails of-keys c cIs _ r e))
+      module _ (bPasses : b ≡ Passes) (form : Form) (formIs : form ≡ form-named (n .form)) (f : Checked) (is : f ≡ checked (first (form-checks (form-of form) (length pairs / 4)))) where
+        fIs : f ≡ checked (first of-form)
+        fIs = rw formIs at is
 
-        pub body-closing : c ≡ Passes → (d : Checked) → d ≡ checked (first (closing-checks (n .version) (n .contentType) (n .headerIvLength) (length suiteData) (n .frameLength)))
-            → d ≡ checked (first (writing-header-body (body-to-write n messageId suiteData text pairs keys) .checks))
-        body-closing cPasses d dIs =
-            rw stages (dIs ∙ sym (stage-passes opens a aIs _ aPasses ∙ stage-passes of-pairs b bIs _ bPasses ∙ stage-passes of-keys c cIs _ cPasses))
+        pub body-form : (r : Refusal) → f ≡ Fails r → Fails r ≡ checked (first (writing-header-body (body-to-write n messageId suiteData text pairs keys) .checks))
+        body-form r e = rw stages (sym (stage-passes opens a aIs _ aPasses ∙ stage-passes of-pairs b bIs _ bPasses ∙ stage-fails of-form f fIs _ r e))
+
+        module _ (fPasses : f ≡ Passes) (c : Checked) (cIs : c ≡ checked (first (writing-encrypted-data-keys-section text keys .checks))) where
+          to-keys : checked (first (writing-header-body (body-to-write n messageId suiteData text pairs keys) .checks)) ≡ checked (first (of-keys ++ closes))
+          to-keys = rw stages (stage-passes opens a aIs _ aPasses ∙ stage-passes of-pairs b bIs _ bPasses ∙ stage-passes of-form f fIs _ fPasses)
+
+          pub body-keys : (r : Refusal) → c ≡ Fails r → Fails r ≡ checked (first (writing-header-body (body-to-write n messageId suiteData text pairs keys) .checks))
+          body-keys r e = sym (to-keys ∙ stage-fails of-keys c cIs _ r e)
+
+          pub body-closing : c ≡ Passes → (d : Checked) → d ≡ checked (first (closing-checks (n .version) (n .contentType) (n .headerIvLength) (length suiteData) (n .frameLength)))
+              → d ≡ checked (first (writing-header-body (body-to-write n messageId suiteData text pairs keys) .checks))
+          body-closing cPasses d dIs = dIs ∙ sym (to-keys ∙ stage-passes of-keys c cIs _ cPasses)
 
   -- where all pass
   module _ (all-pass : first (writing-header-body (body-to-write n messageId suiteData text pairs keys) .checks) ≡ none) where
     opened : first opens ≡ none
     opened = front opens _ (rw stages at all-pass)
 
-    behind : first (of-pairs ++ (of-keys ++ closes)) ≡ none
+    behind : first (of-pairs ++ (of-form ++ (of-keys ++ closes))) ≡ none
     behind = back opens _ (rw stages at all-pass)
+
+    of-rest : first (of-keys ++ closes) ≡ none
+    of-rest = back of-form _ (back of-pairs _ behind)
 
     pub body-pairs-passed : Passed 4 text pairs
     body-pairs-passed = pairs-passed text pairs (front of-pairs _ behind)
@@ -74,10 +92,10 @@ module _ (n : BodyNumbers) (messageId suiteData text pairs keys : List ℕ) wher
     body-pairs-few = pairs-few text pairs (front of-pairs _ behind)
 
     pub body-keys-passed : Passed 6 text keys
-    body-keys-passed = keys-passed text keys (front of-keys _ (back of-pairs _ behind))
+    body-keys-passed = keys-passed text keys (front of-keys _ of-rest)
 
     closed : first closes ≡ none
-    closed = back of-keys _ (back of-pairs _ behind)
+    closed = back of-keys _ of-rest
 
     -- each number fits where it is stored
     pub version-small : n .version < 256

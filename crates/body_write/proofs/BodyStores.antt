@@ -9,7 +9,8 @@ use borrow.Rule.Slice.PartMut.{putMid}
 use Rattle.format.specs.Shared.{by}
 use Rattle.format.specs.Body.{image}
 use Rattle.format.specs.Checks.{first}
-use Rattle.format.specs.Lent.{fields-to-write, writing-aad-section, writing-encrypted-data-keys-section, writing-header-body}
+use Rattle.format.specs.Context.{section-in}
+use Rattle.format.specs.Lent.{pairs-in, fields-to-write, writing-encrypted-data-keys-section, writing-header-body}
 use Rattle.wire.specs.Stored.{stored}
 use Rattle.wire.proofs.StoreLaws.{stored-tail}
 use Rattle.checks.specs.Answers.{checked}
@@ -21,44 +22,49 @@ use Rattle.section_write.specs.Sizes.{aad-section-size, keys-section-size}
 use Rattle.section_write.proofs.Images.{aad-long, keys-long}
 use Rattle.body_write.specs.Lent.{body-to-write, write-opening, write-closing}
 use Rattle.body_write.specs.Ready.{body-size, Small, BodyReady}
+use Rattle.fields.specs.Codes.{form-of, form-named}
 use Rattle.fields.specs.declared.BodyNumbers.{BodyNumbers}
+use Rattle.fields.specs.declared.Form.{Form}
 use Rattle.body_write.proofs.Ends.{opening-long, closing-long, ends-fit}
 use Rattle.body_write.proofs.BodyChecks.{version-small, type-small, suite-small, content-small, iv-small, body-pairs-passed, body-pairs-few, body-keys-passed, id-long, data-long, tables-small}
 
-module _ (n : BodyNumbers) (messageId suiteData text pairs keys : List ℕ) where
+module _ (n : BodyNumbers) (form : Form) (messageId suiteData text pairs keys : List ℕ) where
   abbrev opening : List ℕ
   opening = write-opening (eqb (n .version) 1) (n .version) (n .messageType) (n .suite) messageId
 
   abbrev closing : List ℕ
   closing = write-closing (eqb (n .version) 1) (n .contentType) (n .headerIvLength) (n .frameLength) suiteData
 
+  abbrev context : List ℕ
+  context = section-in (form-of form) (pairs-in text pairs)
+
   abbrev sections : List ℕ
-  sections = writing-aad-section text pairs .image ++ writing-encrypted-data-keys-section text keys .image
+  sections = context ++ writing-encrypted-data-keys-section text keys .image
 
-  image-is : writing-header-body (body-to-write n messageId suiteData text pairs keys) .image ≡ opening ++ (sections ++ closing)
-  unfolding body-to-write writing-header-body fields-to-write image writing-aad-section writing-encrypted-data-keys-section write-opening write-closing
-  image-is = ap (λ (l : List ℕ). opening ++ l) (sym (append-assoc (writing-aad-section text pairs .image) (writing-encrypted-data-keys-section text keys .image) closing))
+  image-is : form ≡ form-named (n .form) → writing-header-body (body-to-write n messageId suiteData text pairs keys) .image ≡ opening ++ (sections ++ closing)
+  unfolding body-to-write writing-header-body fields-to-write image writing-encrypted-data-keys-section write-opening write-closing
+  image-is e = rw e (ap (λ (l : List ℕ). opening ++ l) (sym (append-assoc (section-in (form-of (form-named (n .form))) (pairs-in text pairs)) (writing-encrypted-data-keys-section text keys .image) closing)))
 
-  module _ (room : ℕ) (r : BodyReady n messageId suiteData text pairs keys room) where
+  module _ (room : ℕ) (r : BodyReady n form messageId suiteData text pairs keys room) where
     opens : length opening ≡ by (n .version) 20 35
     opens = opening-long (eqb (n .version) 1) (n .version) (n .messageType) (n .suite) messageId (r .idLong)
 
     closes : length closing ≡ by (n .version) 10 37
     closes = closing-long (eqb (n .version) 1) (n .contentType) (n .headerIvLength) (n .frameLength) suiteData (r .dataLong)
 
-    holds : length sections ≡ aad-section-size pairs + keys-section-size keys
+    holds : length sections ≡ aad-section-size (form-of form) pairs + keys-section-size keys
     holds =
-        let a = aad-long text pairs (r .pairs) in
+        let a = aad-long text pairs (form-of form) (r .pairs) in
         let b = keys-long text keys (r .keys) in
         simp length-append (omega arith)
 
-    image-long : length (writing-header-body (body-to-write n messageId suiteData text pairs keys) .image) ≡ body-size (n .version) pairs keys
-    image-long = rw (image-is, length-append, length-append) (omega (arith, opens, closes, holds))
+    image-long : length (writing-header-body (body-to-write n messageId suiteData text pairs keys) .image) ≡ body-size (n .version) (form-of form) pairs keys
+    image-long = rw (image-is (r .named), length-append, length-append) (omega (arith, opens, closes, holds))
 
-  pub body-stored : (out : List ℕ) → BodyReady n messageId suiteData text pairs keys (length out) → (o₁ o₂ o₃ : List ℕ) (at s t : ℕ)
-      → at ≡ by (n .version) 20 35 → s ≡ aad-section-size pairs → t ≡ keys-section-size keys
+  pub body-stored : (out : List ℕ) → BodyReady n form messageId suiteData text pairs keys (length out) → (o₁ o₂ o₃ : List ℕ) (at s t : ℕ)
+      → at ≡ by (n .version) 20 35 → s ≡ aad-section-size (form-of form) pairs → t ≡ keys-section-size keys
       → o₁ ≡ stored out 0 (write-opening (eqb (n .version) 1) (n .version) (n .messageType) (n .suite) messageId)
-      → o₂ ≡ stored o₁ at (writing-aad-section text pairs .image ++ writing-encrypted-data-keys-section text keys .image)
+      → o₂ ≡ stored o₁ at (section-in (form-of form) (pairs-in text pairs) ++ writing-encrypted-data-keys-section text keys .image)
       → o₃ ≡ stored (take (length o₂ - (at + (s + t))) (drop (at + (s + t)) o₂)) 0 (write-closing (eqb (n .version) 1) (n .contentType) (n .headerIvLength) (n .frameLength) suiteData)
       → putMid (at + (s + t)) (length o₂ - (at + (s + t))) o₂ o₃ ≡ stored out 0 (writing-header-body (body-to-write n messageId suiteData text pairs keys) .image)
   body-stored out r o₁ o₂ o₃ at s t ea es et q₁ q₂ q₃ =
@@ -68,20 +74,21 @@ module _ (n : BodyNumbers) (messageId suiteData text pairs keys : List ℕ) wher
       let l₂ = still-long o₁ o₂ at sections q₂ (omega (arith, r .fits)) in
       let last = stored-tail o₂ o₃ closing (at + (s + t)) (omega (arith, r .fits)) q₃ in
       let two = chain o₁ o₂ _ at (at + (s + t)) sections closing q₂ (omega arith) last (omega (arith, r .fits)) in
-      chain out o₁ _ 0 at opening (sections ++ closing) q₁ (omega arith) two (omega (arith, r .fits)) ∙ rw image-is
+      chain out o₁ _ 0 at opening (sections ++ closing) q₁ (omega arith) two (omega (arith, r .fits)) ∙ rw (image-is (r .named))
 
   -- what checks that passed give
   module _ (c : Checked) (is : c ≡ checked (first (writing-header-body (body-to-write n messageId suiteData text pairs keys) .checks))) (e : c ≡ Passes) where
     pub body-small : Small pairs keys
     body-small = tables-small n messageId suiteData text pairs keys (stage-none _ c is e)
 
-    pub body-ready : (s room : ℕ) → s ≡ body-size (n .version) pairs keys → s ≤ room → BodyReady n messageId suiteData text pairs keys room
-    body-ready s room q h =
+    pub body-ready : form ≡ form-named (n .form) → (s room : ℕ) → s ≡ body-size (n .version) (form-of form) pairs keys → s ≤ room → BodyReady n form messageId suiteData text pairs keys room
+    body-ready g s room q h =
         let p = stage-none _ c is e in
         let i = id-long n messageId suiteData text pairs keys p in
         let d = data-long n messageId suiteData text pairs keys p in
         let f = ends-fit (eqb (n .version) 1) (length messageId) (length suiteData) i d in
         record {
+          named = g;
           version = version-small n messageId suiteData text pairs keys p;
           messageType = type-small n messageId suiteData text pairs keys p;
           suite = suite-small n messageId suiteData text pairs keys p;
@@ -98,5 +105,5 @@ module _ (n : BodyNumbers) (messageId suiteData text pairs keys : List ℕ) wher
           fits = rw q at h;
         }
 
-    pub body-length : (s : ℕ) → s ≡ body-size (n .version) pairs keys → s ≡ length (writing-header-body (body-to-write n messageId suiteData text pairs keys) .image)
-    body-length s q = q ∙ sym (image-long s (body-ready s s q (omega arith)))
+    pub body-length : form ≡ form-named (n .form) → (s : ℕ) → s ≡ body-size (n .version) (form-of form) pairs keys → s ≡ length (writing-header-body (body-to-write n messageId suiteData text pairs keys) .image)
+    body-length g s q = q ∙ sym (image-long s (body-ready g s s q (omega arith)))

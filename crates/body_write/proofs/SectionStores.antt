@@ -5,7 +5,9 @@ use mathlib.Core.Path.{_≡_}
 use mathlib.Core.List.{List, _++_}
 use lib.ListN.{length, take, drop, length-append, length-take, length-drop}
 use borrow.Rule.Slice.PartMut.{putMid}
-use Rattle.format.specs.Lent.{writing-aad-section, writing-encrypted-data-keys-section}
+use Rattle.format.specs.Fields.{Form}
+use Rattle.format.specs.Context.{section-in}
+use Rattle.format.specs.Lent.{pairs-in, writing-encrypted-data-keys-section}
 use Rattle.wire.specs.Stored.{stored}
 use Rattle.wire.proofs.StoreLaws.{stored-tail}
 use Rattle.checks.proofs.Writers.{chain}
@@ -20,11 +22,11 @@ tail-long out at h = simp (length-take, length-drop) (omega arith)
 lent-long : (out ys : List ℕ) (at : ℕ) → at ≤ length out → length ys ≡ length (take (length out - at) (drop at out)) → length (putMid at (length out - at) out ys) ≡ length out
 lent-long out ys at h e = let t = tail-long out at h in simp (length-append, length-take, length-drop) (omega (arith, e, t))
 
-module _ (text pairs keys out : List ℕ) (at : ℕ) (r : SectionsReady text pairs keys at (length out)) where
-  pub first-ready : PairsReady text pairs (length (take (length out - at) (drop at out)))
+module _ (form : Form) (text pairs keys out : List ℕ) (at : ℕ) (r : SectionsReady form text pairs keys at (length out)) where
+  pub first-ready : PairsReady form text pairs (length (take (length out - at) (drop at out)))
   first-ready = let t = tail-long out at (omega (arith, r .fits)) in record { table-passed = r .pairs; few = r .few; fits = omega (arith, r .fits) }
 
-  module _ (ys : List ℕ) (s : ℕ) (is : s ≡ aad-section-size pairs) (long : length ys ≡ length (take (length out - at) (drop at out))) where
+  module _ (ys : List ℕ) (s : ℕ) (is : s ≡ aad-section-size form pairs) (long : length ys ≡ length (take (length out - at) (drop at out))) where
     abbrev mid : List ℕ
     mid = putMid at (length out - at) out ys
 
@@ -37,12 +39,12 @@ module _ (text pairs keys out : List ℕ) (at : ℕ) (r : SectionsReady text pai
     pub second-ready : KeysReady text keys (length (take (length (putMid at (length out - at) out ys) - (at + s)) (drop (at + s) (putMid at (length out - at) out ys))))
     second-ready = let t = tail-long mid (at + s) second-starts in record { table-passed = r .keys; fits = omega (arith, mid-long, r .fits) }
 
-    pub sections-stored : (zs : List ℕ) → ys ≡ stored (take (length out - at) (drop at out)) 0 (writing-aad-section text pairs .image)
+    pub sections-stored : (zs : List ℕ) → ys ≡ stored (take (length out - at) (drop at out)) 0 (section-in form (pairs-in text pairs))
         → zs ≡ stored (take (length (putMid at (length out - at) out ys) - (at + s)) (drop (at + s) (putMid at (length out - at) out ys))) 0 (writing-encrypted-data-keys-section text keys .image)
         → putMid (at + s) (length (putMid at (length out - at) out ys) - (at + s)) (putMid at (length out - at) out ys) zs
-        ≡ stored out at (writing-aad-section text pairs .image ++ writing-encrypted-data-keys-section text keys .image)
+        ≡ stored out at (section-in form (pairs-in text pairs) ++ writing-encrypted-data-keys-section text keys .image)
     sections-stored zs ey ez =
-        let l = aad-long text pairs (r .pairs) in
-        let one = stored-tail out ys (writing-aad-section text pairs .image) at (omega (arith, r .fits)) ey in
+        let l = aad-long text pairs form (r .pairs) in
+        let one = stored-tail out ys (section-in form (pairs-in text pairs)) at (omega (arith, r .fits)) ey in
         let two = stored-tail mid zs (writing-encrypted-data-keys-section text keys .image) (at + s) second-starts ez in
-        chain out mid _ at (at + s) (writing-aad-section text pairs .image) (writing-encrypted-data-keys-section text keys .image) one (omega arith) two (omega (arith, r .fits))
+        chain out mid _ at (at + s) (section-in form (pairs-in text pairs)) (writing-encrypted-data-keys-section text keys .image) one (omega arith) two (omega (arith, r .fits))

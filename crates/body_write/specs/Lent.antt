@@ -4,6 +4,7 @@ use mathlib.Core.List.{List, [], _∷_, _++_}
 use Prim.Native.Nat.{ℕ}
 use Rattle.format.specs.Body.{write-opening-of, write-closing-of}
 use Rattle.format.specs.Lent.{BodyToWrite}
+use Rattle.fields.specs.Codes.{form-of, form-named}
 use Rattle.fields.specs.declared.BodyNumbers.{BodyNumbers}
 
 unfoldable pub body-to-write : BodyNumbers → List ℕ → List ℕ → List ℕ → List ℕ → List ℕ → BodyToWrite
@@ -15,6 +16,7 @@ body-to-write n messageId suiteData text pairs keys =
       contentType = n .contentType;
       headerIvLength = n .headerIvLength;
       frameLength = n .frameLength;
+      form = form-of (form-named (n .form));
       messageId = messageId;
       suiteData = suiteData;
       text = text;

@@ -5,27 +5,48 @@ mod versions;
 
 use checks::Checked;
 use checks::WriteAnswer;
+use checks::fails;
 use checks::keys::check_keys;
 use checks::pairs::check_pairs;
 use checks::refuses;
 use fields::BodyNumbers;
+use fields::Form;
+use fields::form_named;
 use section_write::aad_section_size;
 use section_write::keys_section_size;
 use section_write::put_aad_section;
 use section_write::put_keys_section;
 use wire::refusals::OUTPUT_TOO_SHORT;
+use wire::refusals::PAIR_IN_OLD_FORM;
 ghost use mathlib.Core.Path.{_≡_};
 ghost use mathlib.Core.List.{_++_};
 ghost use Prim.Native.Nat.{_+_};
 ghost use lib.ListN.{length};
-ghost use Rattle.format.specs.Checks.{first};
-ghost use Rattle.format.specs.Lent.{writing-aad-section, writing-encrypted-data-keys-section, writing-header-body};
+ghost use Rattle.format.specs.Context.{section-in};
+ghost use Rattle.format.specs.Checks.{first, form-checks};
+ghost use Rattle.format.specs.Lent.{pairs-in, writing-encrypted-data-keys-section, writing-header-body};
 ghost use Rattle.wire.specs.Stored.{stored};
 ghost use Rattle.checks.specs.Answers.{checked, Writes};
+ghost use Rattle.fields.specs.Codes.{form-of};
 ghost use Rattle.body_write.specs.Lent.{body-to-write};
 ghost use Rattle.body_write.specs.Ready.{body-size, Small, SectionsReady, BodyReady};
 
-// All but 28, in document 01's order.
+// 33: a record marked old has a pair.
+fn check_form(form: Form, pairs: usize) -> Checked
+    ensures { λ r. ⌜ r ≡ checked (first (form-checks (form-of form) pairs)) ⌝ }
+{
+    match form {
+        Form::Today => Checked::Passes,
+        Form::Old => {
+            if pairs != 0 {
+                return fails(PAIR_IN_OLD_FORM);
+            }
+            Checked::Passes
+        }
+    }
+}
+
+// All but 28, in the order of documents 01 and 02.
 fn check_body(
     n: BodyNumbers,
     messageId: &[u8],
@@ -44,6 +65,10 @@ fn check_body(
     if let Checked::Fails(r) = b {
         return Checked::Fails(r);
     }
+    let f = check_form(form_named(n.form), pairs.len() / 4);
+    if let Checked::Fails(r) = f {
+        return Checked::Fails(r);
+    }
     let c = check_keys(text, keys);
     if let Checked::Fails(r) = c {
         return Checked::Fails(r);
@@ -57,27 +82,28 @@ fn check_body(
     )
 }
 
-fn body_size(version: u32, pairs: &[u32], keys: &[u32]) -> usize
+fn body_size(version: u32, form: Form, pairs: &[u32], keys: &[u32]) -> usize
     requires { ⌜ Small (now pairs) (now keys) ⌝ }
-    ensures { λ r. ⌜ r ≡ body-size version (now (pairs .entry)) (now (keys .entry)) ⌝ }
+    ensures { λ r. ⌜ r ≡ body-size version (form-of form) (now (pairs .entry)) (now (keys .entry)) ⌝ }
 {
-    opening::opening_size(version)
-        + (aad_section_size(pairs) + (keys_section_size(keys) + closing::closing_size(version)))
+    let sections = aad_section_size(form, pairs) + keys_section_size(keys);
+    opening::opening_size(version) + (sections + closing::closing_size(version))
 }
 
 // Writes both sections; each writer is lent the part of the output that begins at its section.
-fn put_sections(text: &[u8], pairs: &[u32], keys: &[u32], out: &mut [u8], at: usize)
-    requires { ⌜ SectionsReady (now text) (now pairs) (now keys) at (length (now out)) ⌝ }
-    ensures { λ _. ⌜ now (out .exit) ≡ stored (now (out .entry)) at (writing-aad-section (now (text .entry)) (now (pairs .entry)) .image ++ writing-encrypted-data-keys-section (now (text .entry)) (now (keys .entry)) .image) ⌝ }
+fn put_sections(form: Form, text: &[u8], pairs: &[u32], keys: &[u32], out: &mut [u8], at: usize)
+    requires { ⌜ SectionsReady (form-of form) (now text) (now pairs) (now keys) at (length (now out)) ⌝ }
+    ensures { λ _. ⌜ now (out .exit) ≡ stored (now (out .entry)) at (section-in (form-of form) (pairs-in (now (text .entry)) (now (pairs .entry))) ++ writing-encrypted-data-keys-section (now (text .entry)) (now (keys .entry)) .image) ⌝ }
 {
-    let size = aad_section_size(pairs);
-    put_aad_section(text, pairs, &mut out[at..]);
+    let size = aad_section_size(form, pairs);
+    put_aad_section(form, text, pairs, &mut out[at..]);
     let next = at + size;
     put_keys_section(text, keys, &mut out[next..]);
 }
 
 fn put_body(
     n: BodyNumbers,
+    form: Form,
     messageId: &[u8],
     suiteData: &[u8],
     text: &[u8],
@@ -85,13 +111,13 @@ fn put_body(
     keys: &[u32],
     out: &mut [u8],
 )
-    requires { ⌜ BodyReady n (now messageId) (now suiteData) (now text) (now pairs) (now keys) (length (now out)) ⌝ }
+    requires { ⌜ BodyReady n form (now messageId) (now suiteData) (now text) (now pairs) (now keys) (length (now out)) ⌝ }
     ensures { λ _. ⌜ now (out .exit) ≡ stored (now (out .entry)) 0 (writing-header-body (body-to-write n (now (messageId .entry)) (now (suiteData .entry)) (now (text .entry)) (now (pairs .entry)) (now (keys .entry))) .image) ⌝ }
 {
     opening::put_opening(n.version, n.messageType, n.suite, messageId, out);
     let at = opening::opening_size(n.version);
-    put_sections(text, pairs, keys, out, at);
-    let end = at + (aad_section_size(pairs) + keys_section_size(keys));
+    put_sections(form, text, pairs, keys, out, at);
+    let end = at + (aad_section_size(form, pairs) + keys_section_size(keys));
     closing::put_closing(
         n.version,
         n.contentType,
@@ -102,7 +128,7 @@ fn put_body(
     );
 }
 
-// Write a body: 3; 5; 6; 7; 24; the pairs' and the keys'; 17; 19; 25; 20; 28.
+// Write a body: 3; 5; 6; 7; 24; the pairs'; 33; the keys'; 17; 19; 25; 20; 28. Its context is in the form of the mark.
 pub fn write_header_body(
     numbers: BodyNumbers,
     messageId: &[u8],
@@ -118,10 +144,11 @@ pub fn write_header_body(
     if let Checked::Fails(r) = c {
         return WriteAnswer::Refused(r);
     }
-    let size = body_size(numbers.version, pairs, keys);
+    let form = form_named(numbers.form);
+    let size = body_size(numbers.version, form, pairs, keys);
     if out.len() < size {
         return refuses(OUTPUT_TOO_SHORT);
     }
-    put_body(numbers, messageId, suiteData, text, pairs, keys, out);
+    put_body(numbers, form, messageId, suiteData, text, pairs, keys, out);
     WriteAnswer::Written(size)
 }

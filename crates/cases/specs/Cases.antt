@@ -10,8 +10,8 @@ use Rattle.format.specs.Read.{_>>=_, _>>_, return, test, held, repeat, framed, 
 use Rattle.format.specs.Serialize.{read, read-uint, read-uint8, read-uint16, write-uint16, read-uint32, write-uint32, read-short-length-seq, write-short-length-seq, images, sum, every, same-bytes}
 use Rattle.format.specs.Utf8.{rows, first-byte, octets}
 use Rattle.format.specs.Shared.{suites, version-in, read-message-format-version, read-esdk-suite-id, read-content-type, frame-fits}
-use Rattle.format.specs.Fields.{Fields, HeaderBody}
-use Rattle.format.specs.Context.{seen, today, write-aad-pair, write-aad-pairs, write-aad, write-expanded-aad-section, write-aad-section, Mode, tolerant, strict, read-text, read-aad-pair, read-next-aad-pair, read-aad-by, read-aad, read-aad-of, read-aad-section, read-aad-section-into}
+use Rattle.format.specs.Fields.{Form, today, old, Fields, HeaderBody}
+use Rattle.format.specs.Context.{seen, write-aad-pair, write-aad-pairs, write-aad, write-expanded-aad-section, write-aad-section, Mode, tolerant, strict, read-text, read-aad-pair, read-next-aad-pair, read-aad-by, read-aad, read-aad-of, read-aad-section, with-mark, read-aad-section-into}
 use Rattle.format.specs.Keys.{no-max, write-encrypted-data-key, write-encrypted-data-keys, write-encrypted-data-keys-section, read-encrypted-data-key, read-encrypted-data-keys-section}
 use Rattle.format.specs.Body.{either, read-opening-of, read-opening, read-closing-of, read-closing, after-context, after-opening, read-body, read-header-body, write-opening-of, write-closing-of, image}
 use Rattle.format.specs.Checks.{first, each, pairs-checks, keys-checks, body-checks}
@@ -25,10 +25,15 @@ pub data Expected : Type 0 where
 abbrev pub shortage-at : ℕ → Expected
 shortage-at position = refuses 2 position
 
--- a body's numbers: version, type, suite, the ID's place, the tables, content type, IV length, frame length, the suite data's place
+-- the mark: 0 for today's form, 1 for the old one
+abbrev mark-number : Form → ℕ
+mark-number today = 0
+mark-number old = 1
+
+-- a body's numbers: version, type, suite, mark, the ID's place, the tables, content type, IV length, frame length, the suite data's place
 unfoldable pub body-numbers : HeaderBody → List ℕ
 body-numbers b =
-    (b .version ∷ b .messageType ∷ b .suite ∷ place (b .messageId))
+    (b .version ∷ b .messageType ∷ b .suite ∷ mark-number (b .form) ∷ place (b .messageId))
     ++ (pair-numbers (b .pairs) ++ (key-numbers (b .keys) ++ (b .contentType ∷ b .headerIvLength ∷ b .frameLength ∷ place (b .suiteData))))
 
 pub data Case : Type 0 where
@@ -36,8 +41,8 @@ pub data Case : Type 0 where
   section : Mode → List ℕ → Expected → Case
   -- a message read at a start, by the tolerant either-version reader with no maximum
   body : List ℕ → ℕ → Expected → Case
-  -- fields that today's writer accepts, and their image
-  writes : Fields → List ℕ → Case
+  -- fields that our writer accepts, given the mark, and their image
+  writes : Form → Fields → List ℕ → Case
 
 unfoldable pub is : {A : Type 0} → (A → List ℕ) → Answer A → Expected → Bool
 is numbers (accepted a t) (accepts tail these) = eqb t tail && same-bytes (numbers a) these
@@ -52,7 +57,7 @@ no-refusal (some k) = false
 unfoldable pub passes : Case → Bool
 passes (section mode m want) = is pair-numbers (operation (read-aad-section-into mode 4096) m 0) want
 passes (body m s want) = is body-numbers (operation (read-header-body either tolerant no-max 4096 4096) m s) want
-passes (writes f want) = no-refusal (first (body-checks [] [] f)) && same-bytes (image today f) want
+passes (writes form f want) = no-refusal (first (body-checks [] [] form f)) && same-bytes (image form f) want
 
 -- header H
 unfoldable pub H : List ℕ
@@ -95,15 +100,15 @@ cases =
     ∷ section tolerant (0x00 ∷ 0x0A ∷ 0x00 ∷ 0x02 ∷ 0x00 ∷ 0x00 ∷ 0x00 ∷ 0x00 ∷ 0x00 ∷ 0x00 ∷ 0x00 ∷ 0x00 ∷ []) (refuses 12 0)
     ∷ section tolerant (0x00 ∷ 0x04 ∷ 0x00 ∷ 0x01 ∷ 0x00 ∷ 0x05 ∷ []) (refuses 32 0)
     ∷ section tolerant (0x00 ∷ 0x04 ∷ 0x00 ∷ 0x01 ∷ 0x00 ∷ 0x05 ∷ 0x61 ∷ 0x62 ∷ 0x63 ∷ 0x64 ∷ 0x65 ∷ 0x00 ∷ 0x00 ∷ []) (refuses 32 0)
-    ∷ body H 0 (accepts 58 (1 ∷ 0x80 ∷ 0x0178 ∷ 4 ∷ 16 ∷ 26 ∷ 4 ∷ 32 ∷ 2 ∷ 38 ∷ 2 ∷ 42 ∷ 1 ∷ 45 ∷ 3 ∷ 2 ∷ 12 ∷ 4096 ∷ 0 ∷ 0 ∷ []))
-    ∷ writes H-fields H
+    ∷ body H 0 (accepts 58 (1 ∷ 0x80 ∷ 0x0178 ∷ 0 ∷ 4 ∷ 16 ∷ 26 ∷ 4 ∷ 32 ∷ 2 ∷ 38 ∷ 2 ∷ 42 ∷ 1 ∷ 45 ∷ 3 ∷ 2 ∷ 12 ∷ 4096 ∷ 0 ∷ 0 ∷ []))
+    ∷ writes today H-fields H
     ∷ body (take 22 H) 0 (shortage-at 34)
     ∷ body H 70 (shortage-at 71)
     ∷ []
 
 -- to unfold this is to unfold all that a reader is made of
 unfoldable pub opened : Unit {0}
-unfolding _>>=_ _>>_ return test held repeat framed at operation read read-uint read-uint8 read-uint16 read-uint32 read-short-length-seq sum same-bytes rows first-byte octets suites version-in read-message-format-version read-esdk-suite-id read-content-type frame-fits seen read-text read-aad-pair read-next-aad-pair read-aad-by read-aad read-aad-of read-aad-section read-aad-section-into read-encrypted-data-key read-encrypted-data-keys-section read-opening-of read-opening read-closing-of read-closing after-context after-opening read-body read-header-body
+unfolding _>>=_ _>>_ return test held repeat framed at operation read read-uint read-uint8 read-uint16 read-uint32 read-short-length-seq sum same-bytes rows first-byte octets suites version-in read-message-format-version read-esdk-suite-id read-content-type frame-fits seen read-text read-aad-pair read-next-aad-pair read-aad-by read-aad read-aad-of read-aad-section with-mark read-aad-section-into read-encrypted-data-key read-encrypted-data-keys-section read-opening-of read-opening read-closing-of read-closing after-context after-opening read-body read-header-body
 opened = tt
 
 -- and a writer

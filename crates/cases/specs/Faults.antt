@@ -10,7 +10,7 @@ use lib.Dec.{eqb}
 use lib.ListN.{take, drop, replicate}
 use Rattle.format.specs.Read.{operation}
 use Rattle.format.specs.Serialize.{every}
-use Rattle.format.specs.Fields.{Pair, EncryptedDataKey}
+use Rattle.format.specs.Fields.{Form, today, old, Pair, EncryptedDataKey}
 use Rattle.format.specs.Context.{Mode, tolerant, strict, read-aad-section-into, look-up, find-value}
 use Rattle.format.specs.Keys.{no-max, at-most, read-encrypted-data-keys-section-into}
 use Rattle.format.specs.Body.{Which, either, v1-only, v2-only, read-header-body}
@@ -66,9 +66,12 @@ answered (write-keys ks k) = none-else (first (keys-checks ks)) k
 abbrev before-closing : List ℕ → List ℕ
 before-closing rest = take 48 H ++ rest
 
--- a call of the body writer that writes H, but for the text and the numbers given
-abbrev to-write-over : List ℕ → ℕ → ℕ → ℕ → List ℕ → List ℕ → List ℕ → ℕ → ℕ → List ℕ → ℕ → Writing
-to-write-over text version messageType suite messageId pairTable keyTable contentType iv suiteData frame =
+abbrev id : List ℕ
+id = take 16 (drop 4 H)
+
+-- a call of the body writer that writes H, but for the text, the mark and the numbers given
+abbrev to-write-in : Form → List ℕ → ℕ → ℕ → ℕ → List ℕ → List ℕ → List ℕ → ℕ → ℕ → List ℕ → ℕ → Writing
+to-write-in form text version messageType suite messageId pairTable keyTable contentType iv suiteData frame =
     writing-header-body (record {
       version = version;
       messageType = messageType;
@@ -76,6 +79,7 @@ to-write-over text version messageType suite messageId pairTable keyTable conten
       contentType = contentType;
       headerIvLength = iv;
       frameLength = frame;
+      form = form;
       messageId = messageId;
       suiteData = suiteData;
       text = text;
@@ -83,11 +87,15 @@ to-write-over text version messageType suite messageId pairTable keyTable conten
       keyTable = keyTable;
     })
 
-abbrev to-write : ℕ → ℕ → ℕ → List ℕ → List ℕ → List ℕ → ℕ → ℕ → List ℕ → ℕ → Writing
-to-write = to-write-over (0x6C ∷ 0x61 ∷ 0x6E ∷ 0x67 ∷ 0x63 ∷ 0x79 ∷ 0xFF ∷ [])
+abbrev some-text : List ℕ
+some-text = 0x6C ∷ 0x61 ∷ 0x6E ∷ 0x67 ∷ 0x63 ∷ 0x79 ∷ 0xFF ∷ []
 
-abbrev id : List ℕ
-id = take 16 (drop 4 H)
+abbrev to-write : ℕ → ℕ → ℕ → List ℕ → List ℕ → List ℕ → ℕ → ℕ → List ℕ → ℕ → Writing
+to-write = to-write-in today some-text
+
+-- marked old, with those tables and nothing behind them that would pass
+abbrev old-with : List ℕ → List ℕ → Writing
+old-with pairTable keyTable = to-write-in old some-text 1 0x80 0x0178 id pairTable keyTable 0 0 [] 0
 
 -- no UTF-8
 abbrev long-text : ℕ → List ℕ
@@ -181,7 +189,18 @@ faults =
     ∷ write (to-write 1 0x80 0x0178 id (0 ∷ 4 ∷ 4 ∷ 2 ∷ []) [] 2 12 [] 0) 20
     ∷ write (to-write 1 0x80 0x0178 id (0 ∷ 4 ∷ 4 ∷ 2 ∷ []) [] 1 12 [] 1) 20
     ∷ write (to-write 1 0x80 0x0178 id (0 ∷ 4 ∷ 4 ∷ 2 ∷ []) [] 2 12 [] 1) 28
-    ∷ write (to-write-over (zeros 65530) 1 0x80 0x0178 id (0 ∷ 65530 ∷ 0 ∷ 0 ∷ []) (0 ∷ []) 0 0 [] 0) 13
+    ∷ write (old-with (0 ∷ 4 ∷ 4 ∷ 3 ∷ []) []) 11
+    ∷ write (old-with (0 ∷ 4 ∷ 4 ∷ 2 ∷ 0 ∷ 4 ∷ 4 ∷ 2 ∷ []) []) 12
+    ∷ write (old-with (0 ∷ 4 ∷ 4 ∷ []) []) 26
+    ∷ write (old-with (0 ∷ 4 ∷ 4 ∷ 2 ∷ []) (0 ∷ [])) 33
+    ∷ write (old-with (0 ∷ 4 ∷ 4 ∷ 2 ∷ []) (6 ∷ 1 ∷ 0 ∷ 0 ∷ 0 ∷ 0 ∷ [])) 33
+    ∷ write (old-with (0 ∷ 4 ∷ 4 ∷ 2 ∷ []) []) 33
+    ∷ write (old-with [] (0 ∷ [])) 26
+    ∷ write (old-with [] []) 17
+    ∷ write (to-write-in old some-text 1 0x80 0x0178 id (0 ∷ 4 ∷ 4 ∷ 2 ∷ []) [] 2 12 [] 1) 33
+    ∷ write (to-write-in old some-text 1 0x80 0x0178 id [] [] 2 12 [] 1) 28
+    ∷ write (to-write-in old (zeros 65530) 1 0x80 0x0178 id (0 ∷ 65530 ∷ 0 ∷ 0 ∷ []) (0 ∷ []) 0 0 [] 0) 13
+    ∷ write (to-write-in today (zeros 65530) 1 0x80 0x0178 id (0 ∷ 65530 ∷ 0 ∷ 0 ∷ []) (0 ∷ []) 0 0 [] 0) 13
     -- write a section, a record
     ∷ write (writing-aad-section (long-text 65536) (0 ∷ 65536 ∷ 65536 ∷ 1 ∷ [])) 26
     ∷ write (writing-aad-section (long-text 65536) (0 ∷ 65536 ∷ 0 ∷ 0 ∷ [])) 27

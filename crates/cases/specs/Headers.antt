@@ -1,14 +1,19 @@
--- More headers worked out: H without pairs in both forms, and a version 2 header. Assumes nothing.
+-- More headers worked out: H without pairs in both forms, and a version 2 header; and each written back. Assumes nothing.
 use mathlib.Core.Path.{_≡_, refl}
 use mathlib.Core.Bool.{Bool, true}
 use mathlib.Core.List.{List, [], _∷_, _++_}
-use Prim.Native.Nat.{ℕ}
+use Prim.Native.Nat.{ℕ, _+_, _-_}
 use lib.Dec.{eqb}
 use lib.ListN.{length, take, drop}
+use Rattle.format.specs.Read.{Answer, accepted, refused, operation}
 use Rattle.format.specs.Serialize.{every, same-bytes}
-use Rattle.format.specs.Fields.{Fields}
-use Rattle.format.specs.Context.{old}
-use Rattle.format.specs.Body.{image}
+use Rattle.format.specs.Fields.{today, old, Fields, HeaderBody}
+use Rattle.format.specs.Context.{tolerant}
+use Rattle.format.specs.Keys.{no-max}
+use Rattle.format.specs.Body.{either, read-header-body}
+use Rattle.format.specs.Auth.{zeros}
+use Rattle.format.specs.Lent.{pair-numbers, key-numbers, items, in-text, part-in, fields-to-write, table-checks, refusal-of, writing-header-body, output-after}
+use Rattle.format.specs.WrittenBack.{again}
 use Rattle.cases.specs.Cases.{accepts, Case, body, writes, is, passes, body-numbers, H, H-fields, opened, laid-out}
 
 -- H with another context section in the place of its own
@@ -59,18 +64,46 @@ V2-fields =
 
 unfoldable pub headers : List Case
 headers =
-    body (H-with (0x00 ∷ 0x00 ∷ [])) 0 (accepts 46 (1 ∷ 0x80 ∷ 0x0178 ∷ 4 ∷ 16 ∷ 26 ∷ 2 ∷ 30 ∷ 1 ∷ 33 ∷ 3 ∷ 2 ∷ 12 ∷ 4096 ∷ 0 ∷ 0 ∷ []))
-    ∷ body (H-with (0x00 ∷ 0x02 ∷ 0x00 ∷ 0x00 ∷ [])) 0 (accepts 48 (1 ∷ 0x80 ∷ 0x0178 ∷ 4 ∷ 16 ∷ 28 ∷ 2 ∷ 32 ∷ 1 ∷ 35 ∷ 3 ∷ 2 ∷ 12 ∷ 4096 ∷ 0 ∷ 0 ∷ []))
-    ∷ writes H-without-pairs (H-with (0x00 ∷ 0x00 ∷ []))
-    ∷ body V2 0 (accepts 92 (2 ∷ 0 ∷ 0x0578 ∷ 3 ∷ 32 ∷ 41 ∷ 1 ∷ 44 ∷ 1 ∷ 49 ∷ 1 ∷ 52 ∷ 0 ∷ 54 ∷ 1 ∷ 1 ∷ 0 ∷ 0 ∷ 60 ∷ 32 ∷ []))
-    ∷ body (0xFF ∷ 0xFF ∷ V2 ++ (0xFF ∷ [])) 2 (accepts 94 (2 ∷ 0 ∷ 0x0578 ∷ 5 ∷ 32 ∷ 43 ∷ 1 ∷ 46 ∷ 1 ∷ 51 ∷ 1 ∷ 54 ∷ 0 ∷ 56 ∷ 1 ∷ 1 ∷ 0 ∷ 0 ∷ 62 ∷ 32 ∷ []))
-    ∷ writes V2-fields V2
+    body (H-with (0x00 ∷ 0x00 ∷ [])) 0 (accepts 46 (1 ∷ 0x80 ∷ 0x0178 ∷ 0 ∷ 4 ∷ 16 ∷ 26 ∷ 2 ∷ 30 ∷ 1 ∷ 33 ∷ 3 ∷ 2 ∷ 12 ∷ 4096 ∷ 0 ∷ 0 ∷ []))
+    ∷ body (H-with (0x00 ∷ 0x02 ∷ 0x00 ∷ 0x00 ∷ [])) 0 (accepts 48 (1 ∷ 0x80 ∷ 0x0178 ∷ 1 ∷ 4 ∷ 16 ∷ 28 ∷ 2 ∷ 32 ∷ 1 ∷ 35 ∷ 3 ∷ 2 ∷ 12 ∷ 4096 ∷ 0 ∷ 0 ∷ []))
+    ∷ writes today H-without-pairs (H-with (0x00 ∷ 0x00 ∷ []))
+    ∷ writes old H-without-pairs (H-with (0x00 ∷ 0x02 ∷ 0x00 ∷ 0x00 ∷ []))
+    ∷ body V2 0 (accepts 92 (2 ∷ 0 ∷ 0x0578 ∷ 0 ∷ 3 ∷ 32 ∷ 41 ∷ 1 ∷ 44 ∷ 1 ∷ 49 ∷ 1 ∷ 52 ∷ 0 ∷ 54 ∷ 1 ∷ 1 ∷ 0 ∷ 0 ∷ 60 ∷ 32 ∷ []))
+    ∷ body (0xFF ∷ 0xFF ∷ V2 ++ (0xFF ∷ [])) 2 (accepts 94 (2 ∷ 0 ∷ 0x0578 ∷ 0 ∷ 5 ∷ 32 ∷ 43 ∷ 1 ∷ 46 ∷ 1 ∷ 51 ∷ 1 ∷ 54 ∷ 0 ∷ 56 ∷ 1 ∷ 1 ∷ 0 ∷ 0 ∷ 62 ∷ 32 ∷ []))
+    ∷ writes today V2-fields V2
     ∷ []
 
 pub headers-hold : every passes headers ≡ true
 unfolding opened laid-out headers passes is H H-fields H-with H-without-pairs bytes-from V2 V2-fields body-numbers
 headers-hold = refl
 
-pub old-image : same-bytes (image old H-without-pairs) (H-with (0x00 ∷ 0x02 ∷ 0x00 ∷ 0x00 ∷ [])) ≡ true
-unfolding laid-out same-bytes H H-fields H-with H-without-pairs opened
-old-image = refl
+-- what is written of a body that was read, into an output of zeros as long as the bytes consumed and one more
+abbrev written-again : List ℕ → ℕ → Answer HeaderBody → List ℕ
+written-again m s (accepted b t) = output-after (writing-header-body (again m b (pair-numbers (b .pairs)) (key-numbers (b .keys)))) (zeros (t - s + 1))
+written-again m s (refused k p) = []
+
+-- the message, the start, and how many bytes the body takes
+pub record Back : Type 0 where
+  pub message : List ℕ
+  pub start : ℕ
+  pub size : ℕ
+
+abbrev back : List ℕ → ℕ → ℕ → Back
+back m s n = record { message = m; start = s; size = n }
+
+unfoldable pub comes-back : Back → Bool
+comes-back x =
+    same-bytes (written-again (x .message) (x .start) (operation (read-header-body either tolerant no-max 4096 4096) (x .message) (x .start)))
+    (take (x .size) (drop (x .start) (x .message)) ++ (0x00 ∷ []))
+
+unfoldable pub refiled : List Back
+refiled =
+    back H 0 58
+    ∷ back (H-with (0x00 ∷ 0x00 ∷ [])) 0 46
+    ∷ back (H-with (0x00 ∷ 0x02 ∷ 0x00 ∷ 0x00 ∷ [])) 0 48
+    ∷ back (0xFF ∷ 0xFF ∷ V2 ++ (0xFF ∷ [])) 2 92
+    ∷ []
+
+pub all-come-back : every comes-back refiled ≡ true
+unfolding opened laid-out refiled comes-back H H-with bytes-from V2 zeros again items in-text part-in fields-to-write table-checks refusal-of writing-header-body
+all-come-back = refl

@@ -1,10 +1,12 @@
--- The ways out of the tests that look at the version or the content type, one law each. Assumes nothing.
+-- The ways out of the tests that look at the version, the content type or the mark, one law each. Assumes nothing.
 use Prim.Native.Nat.{ℕ}
 use mathlib.Core.Path.{_≡_, refl}
 use mathlib.Core.Bool.{Bool, true, false, _||_, not}
 use lib.Dec.{eqb}
 use borrow.Author.Tests.{ne-eqb}
 use Rattle.format.specs.Shared.{one-or-two, frame-fits}
+use Rattle.fields.specs.Codes.{form-named}
+use Rattle.fields.specs.declared.Form.the-variants.{Today, Old}
 
 module _ (x : ℕ) where
   pub one-is : x ≡ 1 → true ≡ one-or-two x
@@ -29,3 +31,10 @@ module _ (content frame : ℕ) where
   pub neither : (content ≡ 1 → ⊥) → (content ≡ 2 → ⊥) → false ≡ frame-fits content frame
   unfolding frame-fits
   neither h k = rw (ne-eqb _ _ h, ne-eqb _ _ k)
+
+module _ (n : ℕ) where
+  pub named-today : n ≡ 0 → Today ≡ form-named n
+  named-today e = rw e
+
+  pub named-old : (n ≡ 0 → ⊥) → Old ≡ form-named n
+  named-old h = rw (ne-eqb _ _ h)

@@ -1,5 +1,7 @@
-// The numbers among a header body's fields, which a reader gives and a writer takes, and the tests that both make of them.
+// The numbers among a header body's fields, and the mark beside them, which a reader gives and a writer takes; and the tests that both
+// make of them.
 ghost use mathlib.Core.Path.{_≡_};
+ghost use Rattle.fields.specs.Codes.{form-named};
 ghost use Rattle.format.specs.Shared.{one-or-two, frame-fits};
 
 // Each has the 32 bits of the frame length, so that no refusal has to speak of a longer one; and the others, which are stored in
@@ -12,6 +14,29 @@ pub struct BodyNumbers {
     pub contentType: u32,
     pub headerIvLength: u32,
     pub frameLength: u32,
+    pub form: u32,
+}
+
+// The mark: the form that a body was read in and is written in. It shows in an empty context only, 00 00 today and 00 02 00 00 in the
+// old form.
+pub enum Form {
+    Today,
+    Old,
+}
+
+// Its numbers in the record.
+pub const TODAY: u32 = 0;
+
+pub const OLD: u32 = 1;
+
+// A number that names no form stands for the old one, the stricter mark, since it alone can be refused.
+pub fn form_named(form: u32) -> Form
+    ensures { λ r. ⌜ r ≡ form-named form ⌝ }
+{
+    if form == TODAY {
+        return Form::Today;
+    }
+    Form::Old
 }
 
 // The versions, and the content types.

@@ -9,17 +9,17 @@ use lib.Dec.{leb, ltb, eqb}
 use lib.ListN.{length}
 use Rattle.format.specs.Serialize.{images, every, sum}
 use Rattle.format.specs.Shared.{SuiteRow, suites, version-in, known, frame-fits}
-use Rattle.format.specs.Fields.{Pair, EncryptedDataKey, Fields, pair-parts, key-parts}
+use Rattle.format.specs.Fields.{Form, Pair, EncryptedDataKey, Fields, pair-parts, key-parts}
 use Rattle.format.specs.Context.{pair-length, linear-length, pairs-limit}
-use Rattle.format.specs.Body.{either}
-use Rattle.format.specs.Checks.{Check, check, first, each, has-uint16-len, count-checks, pair-checks, key-checks, pairs-checks, keys-checks, opening-checks, closing-checks, body-checks, Accepts}
+use Rattle.format.specs.Body.{either, Request}
+use Rattle.format.specs.Checks.{Check, check, first, each, has-uint16-len, count-checks, pair-checks, key-checks, pairs-checks, keys-checks, opening-checks, closing-checks, fits-form, form-checks, body-checks, Accepts}
 use Rattle.format.proofs.Tests.{leb-is, is-leb, eqb-is, is-eqb}
 use Rattle.format.proofs.Exact.{Oks}
 use Rattle.format.proofs.Serialize.{Short}
 use Rattle.format.proofs.Context.{PairOk, NextOk, room-all, linear-length-snoc}
 use Rattle.format.proofs.Keys.{KeyOk}
 use Rattle.format.proofs.Ends.{SuiteOk, TopOk, RestOk, EndOk, version-is}
-use Rattle.format.proofs.Body.{top-of, end-of}
+use Rattle.format.proofs.Body.{Sent, BodyOk, top-of, end-of}
 use Rattle.format.proofs.Firsts.{Holds, holds, unheld, split, join, both, and}
 
 short-in : (xs : List ℕ) → has-uint16-len xs ≡ true → Short xs
@@ -113,11 +113,12 @@ pub then-keys : (ks : List EncryptedDataKey) → length ks < 65536 → Oks KeyOk
 unfolding keys-checks
 then-keys ks few o = let k = keys-pass [] ks o in (leb-is (length ks) 65535 (omega arith), (k .0, k .1))
 
--- what fields are that today's writer accepts
-pub record Good (f : Fields) : Type 0 where
+-- what fields are that our writer accepts, given the mark
+pub record Good (form : Form) (f : Fields) : Type 0 where
   pub top : TopOk either (top-of f)
   pub few-pairs : length (f .pairs) < 65536
   pub pairs : Oks NextOk [] (f .pairs)
+  pub t33 : fits-form form (length (f .pairs)) ≡ true
   pub few-keys : length (f .keys) < 65536
   pub keys : Oks KeyOk [] (f .keys)
   pub end : EndOk (eqb (f .version) 1) (end-of f)
@@ -129,11 +130,11 @@ opens f = opening-checks (f .version) (f .messageType) (f .suite) (length (f .me
 abbrev closes : Fields → List Check
 closes f = closing-checks (f .version) (f .contentType) (f .headerIvLength) (length (f .suiteData)) (f .frameLength)
 
-pub good : (f : Fields) → Accepts f → Good f
+pub good : (form : Form) (f : Fields) → Accepts form f → Good form f
 unfolding body-checks
-good f a =
-    let (t, r) = split (opens f) (pairs-checks (f .pairs) ++ (keys-checks (f .keys) ++ closes f)) (holds (body-checks [] [] f) (a .none-applies)) in
-    let (hp, r′) = split (pairs-checks (f .pairs)) (keys-checks (f .keys) ++ closes f) r in
+good form f a =
+    let (t, r) = split (opens f) (pairs-checks (f .pairs) ++ (form-checks form (length (f .pairs)) ++ (keys-checks (f .keys) ++ closes f))) (holds (body-checks [] [] form f) (a .none-applies)) in
+    let (hp, (h33, r′)) = split (pairs-checks (f .pairs)) (form-checks form (length (f .pairs)) ++ (keys-checks (f .keys) ++ closes f)) r in
     let (hk, z) = split (keys-checks (f .keys)) (closes f) r′ in
     let p = pairs-then (f .pairs) hp in
     let k = keys-then (f .keys) hk in
@@ -149,22 +150,39 @@ good f a =
       };
       few-pairs = p .0;
       pairs = p .1;
+      t33 = h33;
       few-keys = k .0;
       keys = k .1;
       end = record { t17 = z .0; t19 = is-eqb _ _ (z .1 .0); wide = a .frame-is-32-bits; sized = is-eqb _ _ (z .1 .1 .0) };
       t20 = z .1 .1 .1 .0;
     }
 
-pub accepts : (f : Fields) → Good f → Accepts f
+pub accepts : (form : Form) (f : Fields) → Good form f → Accepts form f
 unfolding body-checks
-accepts f g =
+accepts form f g =
     let r = g .top .rest in
     record {
-      none-applies = unheld (body-checks [] [] f)
-          (join (opens f) (pairs-checks (f .pairs) ++ (keys-checks (f .keys) ++ closes f))
+      none-applies = unheld (body-checks [] [] form f)
+          (join (opens f) (pairs-checks (f .pairs) ++ (form-checks form (length (f .pairs)) ++ (keys-checks (f .keys) ++ closes f)))
           (g .top .t3, (eqb-is _ _ (r .t5), (r .suite .t6, (rw (version-is (f .version) (g .top .t3)) at (r .suite .t7), (eqb-is _ _ (r .sized), tt)))))
-          (join (pairs-checks (f .pairs)) (keys-checks (f .keys) ++ closes f) (then-pairs (f .pairs) (g .few-pairs) (g .pairs))
-          (join (keys-checks (f .keys)) (closes f) (then-keys (f .keys) (g .few-keys) (g .keys))
-          (g .end .t17, (eqb-is _ _ (g .end .t19), (eqb-is _ _ (g .end .sized), (g .t20, tt)))))));
+          (join (pairs-checks (f .pairs)) (form-checks form (length (f .pairs)) ++ (keys-checks (f .keys) ++ closes f)) (then-pairs (f .pairs) (g .few-pairs) (g .pairs)) (
+            g .t33,
+            join (keys-checks (f .keys)) (closes f) (then-keys (f .keys) (g .few-keys) (g .keys))
+                (g .end .t17, (eqb-is _ _ (g .end .t19), (eqb-is _ _ (g .end .sized), (g .t20, tt)))),
+          )));
       frame-is-32-bits = g .end .wide;
+    }
+
+-- a value of a reader that tests 20 is one of a writer
+pub body-good : (q : Request) → q .frames ≡ true → (x : Sent) → BodyOk q x → Good (x .form) (x .fields)
+body-good q tests x o =
+    record {
+      top = record { t3 = o .top .t3; t4 = refl; rest = o .top .rest };
+      few-pairs = o .context .section .few;
+      pairs = o .context .section .each;
+      t33 = o .context .fits;
+      few-keys = o .keys .few;
+      keys = o .keys .each;
+      end = o .end;
+      t20 = rw tests at (o .t20);
     }

@@ -2,18 +2,19 @@
 use mathlib.Core.Path.{_≡_, refl}
 use mathlib.Core.Bool.{Bool, true, false, not, _||_}
 use mathlib.Core.List.{List, [], _∷_, _++_, append-nil, map}
-use Prim.Native.Nat.{ℕ, _+_, _*_}
+use Prim.Native.Nat.{ℕ, _+_, _*_, _<_}
+use native.Mathlib.Omega.{arith}
 use lib.Dec.{leb, eqb}
 use lib.ListN.{length}
 use Rattle.format.specs.Read.{_>>=_, _>>_, return, test}
 use Rattle.format.specs.Shared.{frame-fits}
-use Rattle.format.specs.Fields.{Pair, EncryptedDataKey, Fields, HeaderBody, pair-of, key-of, fields-of}
-use Rattle.format.specs.Context.{Form, write-aad-pair}
+use Rattle.format.specs.Fields.{Form, Pair, EncryptedDataKey, Fields, HeaderBody, pair-of, key-of, fields-of}
+use Rattle.format.specs.Context.{write-aad-pair}
 use Rattle.format.specs.Keys.{write-encrypted-data-key, write-encrypted-data-keys-section}
 use Rattle.format.specs.Body.{Request, whole, after-context, after-opening, read-body, image}
 use Rattle.format.proofs.Exact.{Exact, seq-exact, check-exact, check-as, give-exact, revalue, length-puts, map-puts}
-use Rattle.format.proofs.Context.{pair-at, Context, ContextOk, context-bytes, context-at}
-use Rattle.format.proofs.Section.{section-exact}
+use Rattle.format.proofs.Context.{pair-at, Context, context-bytes}
+use Rattle.format.proofs.Marked.{MarkedOk, marked-at, marked-exact}
 use Rattle.format.proofs.Keys.{key-at, KeysOk, keys-at, keys-exact}
 use Rattle.format.proofs.Ends.{Top, TopOk, top-bytes, top-at, v1-of, opening-exact, End, EndOk, end-bytes, end-at, closing-exact}
 
@@ -51,7 +52,7 @@ joined h c ks e =
 
 pub record BodyOk (q : Request) (x : Sent) : Type 0 where
   pub top : TopOk (q .which) (top-of (x .fields))
-  pub context : ContextOk (q .mode) (context-of x)
+  pub context : MarkedOk (q .mode) (context-of x)
   pub keys : KeysOk (q .max) (x .fields .keys)
   pub end : EndOk (eqb (x .fields .version) 1) (end-of (x .fields))
   pub t20 : (not (q .frames) || frame-fits (x .fields .contentType) (x .fields .frameLength)) ≡ true
@@ -69,17 +70,22 @@ body-at s x =
     let t = s + length (top-bytes h) in
     let u = t + length (context-bytes c) in
     let v = u + length (write-encrypted-data-keys-section (x .fields .keys)) in
-    whole (top-at s h) (context-at t c) (keys-at u (x .fields .keys)) (end-at (v1-of h) v (end-of (x .fields)))
+    whole (top-at s h) (marked-at t c) (keys-at u (x .fields .keys)) (end-at (v1-of h) v (end-of (x .fields)))
 
 pub body-exact : (q : Request) → Exact (read-body q) (BodyOk q) sent-bytes body-at
 unfolding read-body after-opening after-context image
 body-exact q =
     revalue (BodyOk q) sent-bytes body-at
-    (seq-exact _ (opening-exact (q .which)) λ r h. seq-exact _ (section-exact (q .mode)) λ s c. seq-exact _ (keys-exact (q .max)) λ t ks. seq-exact _ (closing-exact (eqb (h .version) 1)) λ u e.
+    (seq-exact _ (opening-exact (q .which)) λ r h. seq-exact _ (marked-exact (q .mode)) λ s c. seq-exact _ (keys-exact (q .max)) λ t ks. seq-exact _ (closing-exact (eqb (h .version) 1)) λ u e.
     check-exact 20 _ (check-as 22 (leb (4 * length (c .pairs)) (q .pairRoom)) (rw (length-puts write-aad-pair pair-at) refl)
     (check-as 23 (leb (6 * length ks) (q .keyRoom)) (rw (length-puts write-encrypted-data-key key-at) refl) (give-exact _))))
     (λ w o. (joined (w .0) (w .1 .0) (w .1 .1 .0) (w .1 .1 .1 .0), search, rw append-nil refl, λ s. refl))
     (λ x o. ((top-of (x .fields), (context-of x, (x .fields .keys, (end-of (x .fields), tt)))), search, rw append-nil refl, λ s. refl))
+
+-- an image is not empty, so one that stands in a message starts within it
+pub some-bytes : (x : Sent) → 0 < length (sent-bytes x)
+unfolding image
+some-bytes x = omega arith
 
 -- the values of fields that were placed
 pub fields-at : (s : ℕ) (x : Sent) → fields-of (body-at s x) ≡ x .fields

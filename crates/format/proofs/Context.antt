@@ -10,8 +10,8 @@ use lib.ListN.{length, length-append}
 use Rattle.format.specs.Read.{Reader, _>>=_, _>>_, return, test, no-end, repeat, framed}
 use Rattle.format.specs.Serialize.{Bytes, Part, read-uint16, write-uint16, write-short-length-seq, entry-length, images, sum}
 use Rattle.format.specs.Utf8.{valid-utf8-seq}
-use Rattle.format.specs.Fields.{Pair, PairAt, pair-of}
-use Rattle.format.specs.Context.{seen, pair-length, linear-length, pairs-limit, Form, today, old, write-aad-pair, write-aad-pairs, write-aad, write-expanded-aad-section, write-aad-section, section-in, Mode, tolerant, strict, is-strict, read-text, read-aad-pair, read-aad-by}
+use Rattle.format.specs.Fields.{Form, today, old, Pair, PairAt, pair-of}
+use Rattle.format.specs.Context.{seen, pair-length, linear-length, pairs-limit, write-aad-pair, write-aad-pairs, write-aad, write-expanded-aad-section, write-aad-section, section-in, Mode, tolerant, strict, is-strict, read-text, read-aad-pair, read-aad-by}
 use Rattle.format.specs.Source.{source-read-next-aad-pair, source-read-aad-of}
 use Rattle.format.specs.Sections.{Allowed}
 use Rattle.format.proofs.Tests.{is-leb, is-eqb, neqb-is}

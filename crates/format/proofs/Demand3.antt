@@ -3,6 +3,7 @@ use Rattle.format.specs.Demand3.{Demand3}
 use Rattle.format.proofs.Either as either
 use Rattle.format.proofs.Strict as strict
 use Rattle.format.proofs.OneVersion as one-version
+use Rattle.format.proofs.Marks as marks
 use Rattle.format.proofs.Written as written
 use Rattle.format.proofs.Find as find
 
@@ -12,6 +13,7 @@ demand-3 =
       sentence-1 = either.sentence-1;
       sentence-2 = strict.sentence-2;
       sentence-3 = one-version.sentence-3;
+      marks = marks.marks;
       sentence-4 = written.sentence-4;
       finds = find.finds;
     }

@@ -7,20 +7,33 @@ use native.Mathlib.Omega.{arith}
 use lib.ListN.{length, drop, length-append, length-drop}
 use Rattle.format.specs.Read.{Answer, accepted, refused, answer, success, operation}
 use Rattle.format.specs.Serialize.{Bytes}
-use Rattle.format.specs.Fields.{Fields, HeaderBody, fields-of}
-use Rattle.format.specs.Context.{Form, tolerant}
+use Rattle.format.specs.Fields.{Form, today, old, Pair, Fields, HeaderBody, fields-of}
+use Rattle.format.specs.Context.{tolerant}
 use Rattle.format.specs.Keys.{Max}
 use Rattle.format.specs.Body.{Request, either, request, read-body, read-header-body, image}
 use Rattle.format.specs.First.{FirstApplies, operation-list, FirstRefusal, body-list}
 use Rattle.format.specs.Places.{body-here, body-end}
-use Rattle.format.specs.Demand3.{Stands, Gives, Sentence1}
+use Rattle.format.specs.Demand3.{Writer, todays, the-old, mark-by, image-by, Stands, Gives, Sentence1}
+use Rattle.format.specs.Checks.{fits-form}
 use Rattle.format.proofs.Tests.{leb-is, is-leb}
 use Rattle.format.proofs.Exact.{Took}
-use Rattle.format.proofs.Body.{Sent, BodyOk, sent-bytes, body-at, body-exact, fields-at}
-use Rattle.format.proofs.Accepts.{Good, good, accepts}
+use Rattle.format.proofs.Marked.{old-has-none}
+use Rattle.format.proofs.Body.{Sent, BodyOk, sent-bytes, body-at, body-exact, fields-at, some-bytes}
+use Rattle.format.proofs.Accepts.{Good, good, accepts, body-good}
 use Rattle.format.proofs.Messages.{accepted-took, operation-here, operation-long, operation-far}
 use Rattle.format.proofs.Held.{body-held}
 use Rattle.format.proofs.FirstBody.{first-refusals}
+
+-- the writer that is given a mark which fits
+pub writer-of : Form → Writer
+writer-of today = todays
+writer-of old = the-old
+
+pub its-mark : (form : Form) (ps : List Pair) → fits-form form (length ps) ≡ true → mark-by (writer-of form) ps ≡ form
+unfolding writer-of
+its-mark today ps e = refl
+its-mark old [] e = refl
+its-mark old (p ∷ ps) e = old-has-none p ps e
 
 module _ (max : Max) (pairRoom keyRoom : ℕ) (m : List ℕ) (s : ℕ) where
   abbrev q : Request
@@ -30,41 +43,46 @@ module _ (max : Max) (pairRoom keyRoom : ℕ) (m : List ℕ) (s : ℕ) where
   said = operation (read-header-body either tolerant max pairRoom keyRoom) m s
 
   only : Bytes m → (b : HeaderBody) (t : ℕ) → said ≡ accepted b t
-      → (form : Form) × (f : Fields) × Stands max pairRoom keyRoom m s form f × Gives m b f × (t ≡ s + length (image form f))
+      → (w : Writer) × (f : Fields) × Stands max pairRoom keyRoom m s w f × Gives m b f × (b .form ≡ mark-by w (f .pairs)) × (t ≡ s + length (image-by w f))
   unfolding read-header-body
   only hb b t e =
       let (l, x) = accepted-took (body-exact q) m s hb b t e in
       let v : Sent = x .value in
-      let g : BodyOk q v = x .good in (
-        v .form,
+      let g : BodyOk q v = x .good in
+      let k : mark-by (writer-of (v .form)) (v .fields .pairs) ≡ v .form = its-mark (v .form) (v .fields .pairs) (g .context .fits) in (
+        writer-of (v .form),
         v .fields,
         record {
-          accepts = accepts (v .fields) (record { top = g .top; few-pairs = g .context .few; pairs = g .context .each; few-keys = g .keys .few; keys = g .keys .each; end = g .end; t20 = g .t20 });
+          accepts = rw k (accepts (v .form) (v .fields) (body-good q refl v g));
           after = l;
-          bytes = x .split;
+          bytes = rw k (x .split);
           pairs-held = is-leb _ _ (g .t22);
           keys-held = is-leb _ _ (g .t23);
           max-not-passed = g .keys .below;
         },
         record { fields = ap fields-of (x .placed) ∙ fields-at s v; placed = rw (x .placed) (body-held m q s v g (record { after = l; is = x .split })) },
-        x .tail,
+        ap (λ (y : HeaderBody). y .form) (x .placed) ∙ sym k,
+        rw k (x .tail),
       )
 
-  -- an image is not empty, so it starts within the message
-  start-fits : length m ≤ 4294967295 → (form : Form) (f : Fields) (after : List ℕ) → drop s m ≡ image form f ++ after → s ≤ 4294967295
-  unfolding image
-  start-fits fits form f after e = let d : length m - s ≡ length (image form f ++ after) = sym (length-drop s m) ∙ ap length e in omega arith
+  start-fits : length m ≤ 4294967295 → (x : Sent) (after : List ℕ) → drop s m ≡ sent-bytes x ++ after → s ≤ 4294967295
+  start-fits fits x after e =
+      let d : length m - s ≡ length (sent-bytes x ++ after) = sym (length-drop s m) ∙ ap length e in
+      let a = length-append (sent-bytes x) after in
+      let b = some-bytes x in
+      omega arith
 
-  pub all : length m ≤ 4294967295 → (form : Form) (f : Fields) → Stands max pairRoom keyRoom m s form f
-      → (b : HeaderBody) × (said ≡ accepted b (s + length (image form f))) × Gives m b f
+  pub all : length m ≤ 4294967295 → (w : Writer) (f : Fields) → Stands max pairRoom keyRoom m s w f
+      → (b : HeaderBody) × (said ≡ accepted b (s + length (image-by w f))) × Gives m b f × (b .form ≡ mark-by w (f .pairs))
   unfolding read-header-body
-  all fits form f h =
+  all fits w f h =
+      let form = mark-by w (f .pairs) in
       let x : Sent = record { form = form; fields = f } in
-      let g : Good f = good f (h .accepts) in
+      let g : Good form f = good form f (h .accepts) in
       let ok : BodyOk q x =
       record {
         top = g .top;
-        context = record { allowed = tt; few = g .few-pairs; each = g .pairs };
+        context = record { section = record { allowed = tt; few = g .few-pairs; each = g .pairs }; fits = g .t33 };
         keys = record { few = g .few-keys; below = h .max-not-passed; each = g .keys };
         end = g .end;
         t20 = g .t20;
@@ -73,15 +91,16 @@ module _ (max : Max) (pairRoom keyRoom : ℕ) (m : List ℕ) (s : ℕ) where
       } in
       let e : read-body q (image form f ++ h .after) s ≡ success (body-at s x) (h .after) (s + length (image form f)) = body-exact q .complete x s (h .after) ok in (
         body-at s x,
-        rw (operation-here (read-body q) m s fits (start-fits fits form f (h .after) (h .bytes)), h .bytes, e) refl,
+        rw (operation-here (read-body q) m s fits (start-fits fits x (h .after) (h .bytes)), h .bytes, e) refl,
         record { fields = fields-at s x; placed = body-held m q s x ok (record { after = h .after; is = h .bytes }) },
+        refl,
       )
 
   listed : FirstRefusal (read-header-body either tolerant max pairRoom keyRoom) (body-list q) body-here body-end m s
   unfolding read-header-body
   listed = first-refusals .of-body q m s
 
-  otherwise : Bytes m → ((form : Form) (f : Fields) → Stands max pairRoom keyRoom m s form f → ⊥)
+  otherwise : Bytes m → ((w : Writer) (f : Fields) → Stands max pairRoom keyRoom m s w f → ⊥)
       → (k : ℕ) × (p : ℕ) × (said ≡ refused k p) × FirstApplies (operation-list (body-list q) m s) k p
   otherwise hb none = go said refl
     where

@@ -10,13 +10,15 @@ use Rattle.format.specs.Fields.{PairAt, pair-of, pair-places, EncryptedD
 use Rattle.format.specs.Lent.{place, pair-numbers, key-numbers, filled, items, part-in, pair-in, key-in}
 use Rattle.format.specs.Demand3.{Held, Each}
 
+-- the two numbers of a place
+pub place-there : (table : List ℕ) (p : Part) (l : List ℕ) (at : ℕ) → drop at table ≡ place p ++ l → (getD table at 0 ≡ p .start) × (getD table (at + 1) 0 ≡ length (p .bytes))
+place-there table p l at e =
+    (ap (λ i. getD table i 0) (sym (add-zero at)) ∙ sym (getD-drop at table 0 0) ∙ ap (λ x. getD x 0 0) e, sym (getD-drop at table 1 0) ∙ ap (λ x. getD x 1 0) e)
+
 module _ (m table : List ℕ) where
   part-there : (p : Part) (l : List ℕ) (at : ℕ) → Held m p → drop at table ≡ place p ++ l → part-in m table at ≡ p .bytes
   unfolding part-in
-  part-there p l at h e =
-      let a : getD table at 0 ≡ p .start = ap (λ i. getD table i 0) (sym (add-zero at)) ∙ sym (getD-drop at table 0 0) ∙ ap (λ x. getD x 0 0) e in
-      let b : getD table (at + 1) 0 ≡ length (p .bytes) = sym (getD-drop at table 1 0) ∙ ap (λ x. getD x 1 0) e in
-      rw (a, b) h
+  part-there p l at h e = let (a, b) = place-there table p l at e in rw (a, b) h
 
   behind : (p : Part) (l : List ℕ) (at : ℕ) → drop at table ≡ place p ++ l → drop (at + 2) table ≡ l
   behind p l at e = sym (drop-drop 2 at table) ∙ ap (drop 2) e

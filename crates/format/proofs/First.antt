@@ -5,6 +5,7 @@ use mathlib.Core.Option.{Option, none, some}
 use mathlib.Core.List.{List, [], _∷_, _++_, map}
 use Prim.Native.Nat.{ℕ, zero, suc, _+_, _-_, _≤_, _<_}
 use native.Mathlib.Omega.{arith}
+use native.Mathlib.Nat.{add-assoc}
 use lib.Dec.{leb, ltb, eqb}
 use lib.ListN.{length, drop}
 use lib.Seq.{drop-cons}
@@ -12,13 +13,13 @@ use Rattle.format.specs.Read.{Reader, _>>=_, _>>_, return, test, End, no
 use Rattle.format.specs.Serialize.{Part, read, read-uint, read-uint8, read-uint16, read-uint32, read-short-length-seq}
 use Rattle.format.specs.Utf8.{valid-utf8-seq}
 use Rattle.format.specs.Shared.{by, read-message-format-version, read-esdk-suite-id, read-content-type, suite-version}
-use Rattle.format.specs.Fields.{PairAt, pair-of}
-use Rattle.format.specs.Context.{Mode, is-strict, seen, read-text, read-aad-pair, read-next-aad-pair, read-aad-by, read-aad, read-aad-of, read-aad-section, read-aad-section-into}
+use Rattle.format.specs.Fields.{today, old, PairAt, pair-of}
+use Rattle.format.specs.Context.{Mode, is-strict, seen, read-text, read-aad-pair, read-next-aad-pair, read-aad-by, read-aad, read-aad-of, read-aad-section, form-between, mark, with-mark, read-aad-section-into}
 use Rattle.format.specs.Keys.{Max, read-encrypted-data-key, read-encrypted-data-keys-section, read-encrypted-data-keys-section-into}
-use Rattle.format.specs.Places.{number-here, number8, number16, number32, part-of, entry-here, entry-end, items-end, pair-here, pair-end, pairs-here, pairs-end, key-here, key-end, section-pairs, section-keys, section-keys-end}
+use Rattle.format.specs.Places.{number-here, number8, number16, number32, part-of, entry-here, entry-end, items-end, pair-here, pair-end, pairs-here, pairs-end, key-here, key-end, section-pairs, section-form, section-keys, section-keys-end}
 use Rattle.format.specs.First.{Line, lacks, when, unless, entry-list, each-list, pair-list, context-list-of, context-list, key-list, keys-list, context-into-list, keys-into-list}
-use Rattle.format.proofs.Tests.{never, leb-is, nleb-is, is-leb, is-nleb, eqb-is, is-eqb}
-use Rattle.format.proofs.Lines.{first-line, one-none, join-none, behind-line, behind-list, Goes, goes-as, return-goes, bind-goes, test-goes, not-goes, held-goes, read-goes, repeat-goes, framed-goes}
+use Rattle.format.proofs.Tests.{never, leb-is, nleb-is, is-leb, is-nleb, eqb-is, is-eqb, eqb-shift}
+use Rattle.format.proofs.Lines.{first-line, one-none, join-none, behind-line, behind-list, Goes, goes-as, return-goes, bind-goes, test-goes, not-goes, held-goes, read-goes, repeat-goes, framed-goes, stopped}
 
 -- the numbers of 1, 2 and 4 bytes, byte by byte
 module _ (m : List ℕ) (s : ℕ) where
@@ -145,6 +146,18 @@ context-goes mode = goes-as (bind-goes uint16-goes (λ n. context-of-goes mode (
     ends : (n s : ℕ) (b : Bool) → eqb n 0 ≡ b → cond b s (s + n) ≡ s + n
     ends n s true e = let z = is-eqb n 0 e in omega arith
     ends n s false e = refl
+
+-- a section with its form, which its length tells
+pub marked-goes : (mode : Mode) → Goes (with-mark (read-aad-section mode)) (context-list mode) (λ m s. record { form = section-form m s; pairs = section-pairs m s }) entry-end
+unfolding with-mark
+marked-goes mode =
+    record {
+      passes = λ m s e. rw (context-goes mode .passes m s e, form-is s (number16 m s)) refl;
+      stops = λ m s x e. stopped (mark s) (x .number) (x .position) (read-aad-section mode (drop s m) s) (context-goes mode .stops m s x e);
+    }
+  where
+    form-is : (s n : ℕ) → form-between s (s + 2 + n) ≡ cond (eqb n 2) old today
+    form-is s n = rw (add-assoc s 2 n, eqb-shift s (2 + n) 4, eqb-shift 2 n 2) refl
 
 pub context-into-goes : (mode : Mode) (room : ℕ) → Goes (read-aad-section-into mode room) (context-into-list mode room) section-pairs entry-end
 unfolding read-aad-section-into context-into-list

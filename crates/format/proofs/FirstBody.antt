@@ -20,7 +20,7 @@ use Rattle.format.specs.Places.{number8, number16, number32, part-of, en
 use Rattle.format.specs.First.{Line, lacks, when, unless, NoneApplies, FirstApplies, operation-list, opening-list-of, opening-list, closing-list-of, closing-list, frame-here, body-list, auth-list, find-list, only-authenticated-list, FirstRefusal, FirstRefusals}
 use Rattle.format.proofs.Lines.{first-line, none-applies, applies-none, first-applies, applies-first, Goes, goes-as, return-goes, bind-goes, test-goes, read-goes}
 use Rattle.format.proofs.Messages.{refused-is-no-accepted}
-use Rattle.format.proofs.First.{uint8-goes, uint16-goes, uint32-goes, context-goes, context-into-goes, keys-goes, keys-into-goes}
+use Rattle.format.proofs.First.{uint8-goes, uint16-goes, uint32-goes, context-goes, marked-goes, context-into-goes, keys-goes, keys-into-goes}
 
 -- where the context section starts, of what follows the version byte at s; true: version 1
 unfoldable opening-end : Bool → ℕ → ℕ
@@ -79,8 +79,8 @@ module _ (q : Request) where
   unfolding read-body after-opening after-context body-list
   body-goes =
       goes-as
-      (bind-goes (opening-goes (q .which)) (λ o. bind-goes (context-goes (q .mode)) (λ ps. bind-goes (keys-goes (q .max)) (λ ks. bind-goes (closing-goes (eqb (o .version) 1)) (λ c.
-      test-goes _ _ (test-goes _ _ (test-goes _ _ (return-goes (whole o ps ks c)))))))))
+      (bind-goes (opening-goes (q .which)) (λ o. bind-goes (marked-goes (q .mode)) (λ x. bind-goes (keys-goes (q .max)) (λ ks. bind-goes (closing-goes (eqb (o .version) 1)) (λ c.
+      test-goes _ _ (test-goes _ _ (test-goes _ _ (return-goes (whole o x ks c)))))))))
       (λ m s. rw (is-v1 (eqb (number8 m s) 1) m (s + 1), content-is, frame-is) refl)
       (λ m s e. (rw (is-v1 (eqb (number8 m s) 1) m (s + 1)) refl, rw (is-v1 (eqb (number8 m s) 1) m (s + 1)) refl))
 

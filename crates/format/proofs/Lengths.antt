@@ -11,7 +11,7 @@ use lib.ListN.{length, length-append}
 use Rattle.format.specs.Read.{ReadResult, success, more-needed, error, go-on, _>>=_, _>>_, return, test, no-end, accepted, operation}
 use Rattle.format.specs.Serialize.{Bytes, images}
 use Rattle.format.specs.Shared.{by, one-or-two, suite-version, id-length, iv-length, tag-length, commit-key-length}
-use Rattle.format.specs.Fields.{Pair, PairAt, pair-of, pair-parts, Fields, HeaderBody}
+use Rattle.format.specs.Fields.{Form, Pair, PairAt, pair-of, pair-parts, Fields, HeaderBody}
 use Rattle.format.specs.Context.{seen, pair-length, linear-length, pairs-limit, Mode, read-aad-pair}
 use Rattle.format.specs.Source.{source-read-next-aad-pair}
 use Rattle.format.specs.Keys.{Max}
@@ -146,9 +146,9 @@ body-read which mode max pairRoom keyRoom m s hb b t e =
     let g : BodyOk q (x .value) = x .good in
     rw (x .placed) (sized (f .version) (f .messageType) (length (f .messageId)) (f .headerIvLength) (length (f .suiteData)) (g .top .t3) (g .top .rest .t5) (g .top .rest .sized) (g .end .t19) (g .end .sized))
 
-body-written : (f : Fields) → Accepts f → Sized (f .version) (f .messageType) (length (f .messageId)) (f .headerIvLength) (length (f .suiteData))
-body-written f a =
-    let g = good f a in
+body-written : (form : Form) (f : Fields) → Accepts form f → Sized (f .version) (f .messageType) (length (f .messageId)) (f .headerIvLength) (length (f .suiteData))
+body-written form f a =
+    let g = good form f a in
     sized (f .version) (f .messageType) (length (f .messageId)) (f .headerIvLength) (length (f .suiteData)) (g .top .t3) (g .top .rest .t5) (g .top .rest .sized) (g .end .t19) (g .end .sized)
 
 -- the authentication record

@@ -5,6 +5,7 @@ pub mod Context
 pub mod Takes
 pub mod Compared
 pub mod Section
+pub mod Marked
 pub mod Keys
 pub mod Ends
 pub mod Body
@@ -25,6 +26,7 @@ pub mod SourceEquality
 pub mod Held
 pub mod Either
 pub mod Strict
+pub mod Marks
 pub mod OneVersion
 pub mod Written
 pub mod Find
@@ -36,6 +38,7 @@ pub mod Characters
 pub mod Lengths
 pub mod Tables
 pub mod Filled
+pub mod WrittenBack
 pub mod Pinned
 pub mod KeyOrder
 pub mod SelectionLaws

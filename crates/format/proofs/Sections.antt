@@ -11,8 +11,8 @@ use lib.ListN.{length, drop, replicate, length-append, length-drop}
 use Rattle.format.specs.Read.{Reader, success, _>>=_, _>>_, return, test, accepted, operation}
 use Rattle.format.specs.Serialize.{Bytes, images, write-uint16}
 use Rattle.format.specs.Shared.{suites, version-in, SuiteRow, suite-version, known, iv-length, tag-length}
-use Rattle.format.specs.Fields.{Pair, PairAt, pair-of, pair-places, EncryptedDataKey, EncryptedDataKeyAt, key-of, key-places}
-use Rattle.format.specs.Context.{Form, today, old, section-in, write-aad-section, write-expanded-aad-section, write-aad-pair, Mode, read-aad-section-into}
+use Rattle.format.specs.Fields.{Form, today, old, Pair, PairAt, pair-of, pair-places, EncryptedDataKey, EncryptedDataKeyAt, key-of, key-places}
+use Rattle.format.specs.Context.{section-in, write-aad-section, write-expanded-aad-section, write-aad-pair, Mode, read-aad-section-into}
 use Rattle.format.specs.Keys.{Max, within, write-encrypted-data-key, write-encrypted-data-keys-section, read-encrypted-data-keys-section-into}
 use Rattle.format.specs.Auth.{HeaderAuth, zeros, read-header-auth-tag-of, read-header-auth-tag, write-header-auth-tag}
 use Rattle.format.specs.Checks.{first, pairs-checks, keys-checks, auth-checks}

@@ -8,8 +8,8 @@ use lib.Dec.{leb, eqb}
 use lib.ListN.{length, length-append}
 use Rattle.format.specs.Read.{Reader, _>>_, return, test, Answer, accepted, refused, answer, operation}
 use Rattle.format.specs.Serialize.{Bytes, every, sum}
-use Rattle.format.specs.Fields.{Pair, PairAt, pair-of}
-use Rattle.format.specs.Context.{seen, linear-length, pairs-limit, Form, today, old, write-aad-pair, write-empty-ec-or-write-aad, write-expanded-aad-section, write-aad-section, section-in, tolerant, read-aad-section}
+use Rattle.format.specs.Fields.{Form, today, old, Pair, PairAt, pair-of}
+use Rattle.format.specs.Context.{seen, linear-length, pairs-limit, write-aad-pair, write-empty-ec-or-write-aad, write-expanded-aad-section, write-aad-section, section-in, tolerant, read-aad-section}
 use Rattle.format.specs.Lent.{part-in, parts-in, places, in-text, table-checks}
 use Rattle.format.specs.OnlyAuthenticated.{context-to-only-authenticate, only-authenticated, in-twos, fitting, write-only-authenticated}
 use Rattle.format.specs.Demand3.{Differ}

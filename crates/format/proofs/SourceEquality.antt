@@ -8,7 +8,8 @@ use lib.Dec.{eqb}
 use lib.ListN.{length, drop}
 use Rattle.format.specs.Read.{ReadResult, success, more-needed, error, Reader, go-on, _>>=_, Answer, refused, answer, at, addressable, operation}
 use Rattle.format.specs.Serialize.{Bytes}
-use Rattle.format.specs.Context.{Mode, tolerant, read-aad-section, read-aad-section-into, find-value}
+use Rattle.format.specs.Fields.{PairAt}
+use Rattle.format.specs.Context.{Mode, tolerant, read-aad-section, mark, with-mark, read-aad-section-into, find-value}
 use Rattle.format.specs.OnlyAuthenticated.{write-only-authenticated}
 use Rattle.format.specs.Body.{Request, after-opening, read-body}
 use Rattle.format.specs.Lent.{table-after}
@@ -53,6 +54,10 @@ section-both : (mode : Mode) → BothRead (read-aad-section mode) (source-read-a
 unfolding read-aad-section source-read-aad-section
 section-both mode = then-differs uint16-wants (λ n few. record { alike = λ l s hb. of-alike mode (eqb n 0) n few l s })
 
+marked-both : {r r′ : Reader (List PairAt)} → BothRead r r′ → BothRead (with-mark r) (with-mark r′)
+unfolding with-mark
+marked-both {r} {r′} h = record { alike = λ l s hb. goes-on (mark s) (r l s) (r′ l s) (h .alike l s hb) }
+
 into-both : (mode : Mode) (room : ℕ) → BothRead (read-aad-section-into mode room) (source-read-aad-section-into mode room)
 unfolding read-aad-section-into source-read-aad-section-into
 into-both mode room = first-differs _ (section-both mode)
@@ -67,7 +72,7 @@ only-authenticated-both text required room = first-differs _ (section-both toler
 
 body-both : (q : Request) → BothRead (read-body q) (source-read-body q)
 unfolding read-body source-read-body after-opening source-after-opening
-body-both q = then-differs (opening-wants (q .which)) (λ o g. first-differs _ (section-both (q .mode)))
+body-both q = then-differs (opening-wants (q .which)) (λ o g. first-differs _ (marked-both (section-both (q .mode))))
 
 -- as operations
 abbrev AnswerAlike : {A : Type 0} → Answer A → Answer A → Type 0

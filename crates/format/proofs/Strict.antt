@@ -10,7 +10,7 @@ use Rattle.format.specs.Read.{ReadResult, success, more-needed, error, R
 use Rattle.format.specs.Serialize.{Bytes, read-uint, read-uint16, write-uint16, same-bytes}
 use Rattle.format.specs.Shared.{by}
 use Rattle.format.specs.Fields.{PairAt, HeaderBody}
-use Rattle.format.specs.Context.{Mode, tolerant, strict, read-next-aad-pair, read-aad-by, read-aad, read-aad-of, read-aad-section}
+use Rattle.format.specs.Context.{Mode, tolerant, strict, read-next-aad-pair, read-aad-by, read-aad, read-aad-of, read-aad-section, mark, with-mark}
 use Rattle.format.specs.Keys.{Max}
 use Rattle.format.specs.Body.{Which, tests-frames, Opening, read-opening, Request, request, after-context, after-opening, read-body, read-header-body, write-opening-of}
 use Rattle.format.specs.Lent.{bytes-at, table-after, pair-table-after, key-table-after, pair-numbers, key-numbers}
@@ -199,10 +199,11 @@ module _ (which : Which) (max : Max) (pairRoom keyRoom : ℕ) (m : List ℕ) (s 
   asks mode = request which mode (tests-frames which) max pairRoom keyRoom
 
   strict-after : (o : Opening) (l : List ℕ) (t : ℕ) → after-opening (asks strict) o l t ≡ cond (old-empty l) (error 21) (after-opening (asks tolerant) o l t)
-  unfolding after-opening after-context _>>=_ Alike
+  unfolding after-opening after-context with-mark _>>=_ Alike
   strict-after o l t =
-      ap (λ x. go-on x (after-context (asks tolerant) o)) (strict-section l t)
-      ∙ go-on-cond (old-empty l) 21 (read-aad-section tolerant l t) (after-context (asks tolerant) o)
+      ap (λ x. go-on (go-on x (mark t)) (after-context (asks tolerant) o)) (strict-section l t)
+      ∙ ap (λ x. go-on x (after-context (asks tolerant) o)) (go-on-cond (old-empty l) 21 (read-aad-section tolerant l t) (mark t))
+      ∙ go-on-cond (old-empty l) 21 (go-on (read-aad-section tolerant l t) (mark t)) (after-context (asks tolerant) o)
 
   strict-reader : operation (read-header-body which strict max pairRoom keyRoom) m s
       ≡ cond (reaches-old which m s) (refused 21 0) (operation (read-header-body which tolerant max pairRoom keyRoom) m s)

@@ -10,7 +10,7 @@ use Rattle.format.specs.Read.{ReadResult, success, more-needed, error, R
 use Rattle.format.specs.Serialize.{Bytes, Part, same-bytes, read, read-uint, read-uint8, read-uint16, read-uint32, read-short-length-seq}
 use Rattle.format.specs.Shared.{id-length, iv-length, tag-length, commit-key-length, read-message-format-version, read-esdk-suite-id, read-content-type}
 use Rattle.format.specs.Fields.{PairAt}
-use Rattle.format.specs.Context.{Mode, tolerant, read-text, read-aad-pair, read-next-aad-pair, read-aad-by, read-aad, read-aad-of, read-aad-section, read-aad-section-into, look-up, find-value}
+use Rattle.format.specs.Context.{Mode, tolerant, read-text, read-aad-pair, read-next-aad-pair, read-aad-by, read-aad, read-aad-of, read-aad-section, ContextAt, mark, with-mark, read-aad-section-into, look-up, find-value}
 use Rattle.format.specs.OnlyAuthenticated.{fitting, write-only-authenticated}
 use Rattle.format.specs.Keys.{Max, read-encrypted-data-key, read-encrypted-data-keys-section, read-encrypted-data-keys-section-into}
 use Rattle.format.specs.Body.{Which, read-opening-of, read-opening, read-closing-of, read-closing, Opening, Request, after-context, after-opening, read-body}
@@ -216,15 +216,19 @@ closing-wants : (v1 : Bool) → Wants Any (read-closing v1)
 unfolding read-closing
 closing-wants v1 = bind-wants content-wants (λ c g. closing-of-wants v1 c)
 
-after-context-wants : (q : Request) (o : Opening) (ps : List PairAt) → Wants Any (after-context q o ps)
+after-context-wants : (q : Request) (o : Opening) (x : ContextAt) → Wants Any (after-context q o x)
 unfolding after-context
-after-context-wants q o ps =
+after-context-wants q o x =
     bind-wants (keys-wants (q .max)) (λ ks g. bind-wants (closing-wants (eqb (o .version) 1)) (λ c g.
     then-wants (test-wants 20 _) (then-wants (test-wants 22 _) (then-wants (test-wants 23 _) (return-wants _)))))
 
+marked-wants : {section : Reader (List PairAt)} → Wants Any section → Wants Any (with-mark section)
+unfolding with-mark
+marked-wants {section} h = record { near = λ l s hb. goes-on Any Any (mark s) (λ ps g. record { near = λ l t hb. (tt, hb, refl) }) (s + length l) (section l s) (h .near l s hb) }
+
 body-wants : (q : Request) → Wants Any (read-body q)
 unfolding read-body after-opening
-body-wants q = bind-wants (opening-wants (q .which)) (λ o g. bind-wants (section-wants (q .mode)) (λ ps g. after-context-wants q o ps))
+body-wants q = bind-wants (opening-wants (q .which)) (λ o g. bind-wants (marked-wants (section-wants (q .mode))) (λ x g. after-context-wants q o x))
 
 -- an authentication record
 auth-of-wants : (v1 : Bool) → Wants Any (read-header-auth-tag-of v1)

@@ -7,8 +7,8 @@ use lib.ListN.{length}
 use Rattle.format.specs.Read.{Reader, _>>=_, _>>_, return, test}
 use Rattle.format.specs.Serialize.{Part, read, read-uint8, read-uint32, write-uint16, write-uint32}
 use Rattle.format.specs.Shared.{id-length, iv-length, commit-key-length, read-message-format-version, read-esdk-suite-id, read-content-type, frame-fits}
-use Rattle.format.specs.Fields.{PairAt, EncryptedDataKeyAt, Fields, HeaderBody}
-use Rattle.format.specs.Context.{Mode, tolerant, strict, Form, section-in, read-aad-section}
+use Rattle.format.specs.Fields.{Form, EncryptedDataKeyAt, Fields, HeaderBody}
+use Rattle.format.specs.Context.{Mode, tolerant, strict, ContextAt, section-in, read-aad-section, with-mark}
 use Rattle.format.specs.Keys.{Max, write-encrypted-data-keys-section, read-encrypted-data-keys-section}
 
 -- which version a reader is asked for
@@ -72,14 +72,15 @@ read-closing v1 = do
   content ← read-content-type
   read-closing-of v1 content
 
-abbrev pub whole : Opening → List PairAt → List EncryptedDataKeyAt → Closing → HeaderBody
-whole o ps ks c =
+abbrev pub whole : Opening → ContextAt → List EncryptedDataKeyAt → Closing → HeaderBody
+whole o x ks c =
     record {
       version = o .version;
       messageType = o .messageType;
       suite = o .suite;
       messageId = o .messageId;
-      pairs = ps;
+      form = x .form;
+      pairs = x .pairs;
       keys = ks;
       contentType = c .contentType;
       headerIvLength = c .headerIvLength;
@@ -96,17 +97,17 @@ pub record Request : Type 0 where
   pub keyRoom : ℕ
   pub frames : Bool
 
-unfoldable pub after-context : Request → Opening → List PairAt → Reader HeaderBody
-after-context q o ps = do
+unfoldable pub after-context : Request → Opening → ContextAt → Reader HeaderBody
+after-context q o x = do
   ks ← read-encrypted-data-keys-section (q .max)
   c ← read-closing (eqb (o .version) 1)
   test 20 (not (q .frames) || frame-fits (c .contentType) (c .frameLength))
-  test 22 (leb (4 * length ps) (q .pairRoom))
+  test 22 (leb (4 * length (x .pairs)) (q .pairRoom))
   test 23 (leb (6 * length ks) (q .keyRoom))
-  return (whole o ps ks c)
+  return (whole o x ks c)
 
 unfoldable pub after-opening : Request → Opening → Reader HeaderBody
-after-opening q o = read-aad-section (q .mode) >>= after-context q o
+after-opening q o = with-mark (read-aad-section (q .mode)) >>= after-context q o
 
 -- ReadHeaderBody, ReadV1HeaderBody, ReadV2HeaderBody
 unfoldable pub read-body : Request → Reader HeaderBody
@@ -140,7 +141,7 @@ unfoldable pub write-closing-of : Bool → ℕ → ℕ → List ℕ → List ℕ
 write-closing-of true iv frame suiteData = write-uint32 0 ++ ((iv ∷ []) ++ write-uint32 frame)
 write-closing-of false iv frame suiteData = write-uint32 frame ++ suiteData
 
--- today's image of the fields, and the old one
+-- the image of the fields, by the mark that stands beside them
 unfoldable pub image : Form → Fields → List ℕ
 image form f =
     let v1 = eqb (f .version) 1 in

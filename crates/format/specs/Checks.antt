@@ -9,7 +9,7 @@ use lib.ListN.{length}
 use Rattle.format.specs.Serialize.{images, every}
 use Rattle.format.specs.Utf8.{valid-utf8-seq}
 use Rattle.format.specs.Shared.{by, one-or-two, known, of-version, id-length, iv-length, tag-length, commit-key-length, frame-fits}
-use Rattle.format.specs.Fields.{Pair, EncryptedDataKey, Fields, pair-parts, key-parts}
+use Rattle.format.specs.Fields.{Form, today, old, Pair, EncryptedDataKey, Fields, pair-parts, key-parts}
 use Rattle.format.specs.Context.{seen, linear-length, pairs-limit}
 
 -- a refusal's number, and the test that it answers for
@@ -52,6 +52,15 @@ pairs-checks ps = count-checks (length ps) (images pair-parts ps) ++ (each pair-
 unfoldable pub keys-checks : List EncryptedDataKey → List Check
 keys-checks ks = count-checks (length ks) (images key-parts ks) ++ each key-checks [] ks
 
+-- 33: a record marked old has a pair
+abbrev pub fits-form : Form → ℕ → Bool
+fits-form today pairs = true
+fits-form old pairs = eqb pairs 0
+
+-- write a body: what stands between the pairs' and the keys', by how many pairs there are
+abbrev pub form-checks : Form → ℕ → List Check
+form-checks form pairs = check 33 (fits-form form pairs) ∷ []
+
 -- write a body: what stands before the pairs', by the ID's length
 abbrev pub opening-checks : ℕ → ℕ → ℕ → ℕ → List Check
 opening-checks version messageType suite id =
@@ -72,19 +81,20 @@ closing-checks version content iv suiteData frame =
     ∷ []
 
 -- the refusals of a body write, with checks in front of the pairs' and of the keys', which are the places of 26
-unfoldable pub body-checks : List Check → List Check → Fields → List Check
-body-checks pairs-first keys-first f =
+unfoldable pub body-checks : List Check → List Check → Form → Fields → List Check
+body-checks pairs-first keys-first form f =
     opening-checks (f .version) (f .messageType) (f .suite) (length (f .messageId))
     ++ ((pairs-first ++ pairs-checks (f .pairs))
+    ++ (form-checks form (length (f .pairs))
     ++ ((keys-first ++ keys-checks (f .keys))
-    ++ closing-checks (f .version) (f .contentType) (f .headerIvLength) (length (f .suiteData)) (f .frameLength)))
+    ++ closing-checks (f .version) (f .contentType) (f .headerIvLength) (length (f .suiteData)) (f .frameLength))))
 
 -- write an authentication record, by the lengths of its IV and tag, without 28
 unfoldable pub auth-checks : ℕ → ℕ → ℕ → List Check
 auth-checks suite iv tag = check 6 (known suite) ∷ check 19 (eqb iv iv-length) ∷ check 30 (eqb tag tag-length) ∷ []
 
--- today's writer accepts the fields: no refusal of a body write applies to them, 26 and 28 left aside.
+-- our writer, given the mark, accepts the fields: no refusal of a body write applies to them, 26 and 28 left aside.
 -- A frame length has 32 bits, so no refusal speaks of a longer one.
-pub record Accepts (f : Fields) : Type 0 where
-  pub none-applies : first (body-checks [] [] f) ≡ none
+pub record Accepts (form : Form) (f : Fields) : Type 0 where
+  pub none-applies : first (body-checks [] [] form f) ≡ none
   pub frame-is-32-bits : f .frameLength < 4294967296

@@ -1,13 +1,13 @@
 -- EncryptionContext.dfy: the context section, read and written, and finding a value in it. Assumes nothing.
-use mathlib.Core.Bool.{Bool, true, false, _&&_, _||_, not}
+use mathlib.Core.Bool.{Bool, true, false, _&&_, _||_, not, cond}
 use mathlib.Core.List.{List, [], _∷_, _++_, map}
 use Prim.Native.Nat.{ℕ, _+_, _*_}
 use lib.Dec.{leb, eqb}
 use lib.ListN.{length}
-use Rattle.format.specs.Read.{success, error, Reader, _>>=_, _>>_, return, test, End, held, repeat, framed}
+use Rattle.format.specs.Read.{success, error, Reader, go-on, _>>=_, _>>_, return, test, End, held, repeat, framed}
 use Rattle.format.specs.Serialize.{Part, read-uint16, write-uint16, read-short-length-seq, write-short-length-seq, entry-length, images, sum, same-bytes}
 use Rattle.format.specs.Utf8.{valid-utf8-seq}
-use Rattle.format.specs.Fields.{Pair, PairAt, pair-of}
+use Rattle.format.specs.Fields.{Form, today, old, Pair, PairAt, pair-of}
 
 -- a key equals a pair's key when their bytes are the same; a key that only begins another differs from it
 unfoldable pub seen : List ℕ → List Pair → Bool
@@ -24,10 +24,6 @@ linear-length = sum pair-length
 -- refusal 13, on writing: what pairs take stays below this, so that the section's length, two bytes more, fits its two bytes
 abbrev pub pairs-limit : ℕ
 pairs-limit = 65534
-
--- how an empty context is written: today 00 00, by the old writer 00 02 00 00
-pub data Form : Type 0 where
-  today old : Form
 
 -- WriteAADPair, WriteAADPairs, WriteAAD
 unfoldable pub write-aad-pair : Pair → List ℕ
@@ -113,7 +109,23 @@ read-aad-section mode = do
   n ← read-uint16
   read-aad-of mode (eqb n 0) n
 
--- the same as an operation of its own, with a table of that many numbers
+-- the pairs of a section, and the form that it stands in
+pub record ContextAt : Type 0 where
+  pub form : Form
+  pub pairs : List PairAt
+
+-- the form of a section from s to t: an empty context in its old form takes four bytes, and no other section does
+abbrev pub form-between : ℕ → ℕ → Form
+form-between s t = cond (eqb t (s + 4)) old today
+
+-- a section as it is read in a body, with its form
+abbrev pub mark : ℕ → List PairAt → Reader ContextAt
+mark s ps l t = success (record { form = form-between s t; pairs = ps }) l t
+
+unfoldable pub with-mark : Reader (List PairAt) → Reader ContextAt
+with-mark r l s = go-on (r l s) (mark s)
+
+-- ReadAADSection as an operation of its own, with a table of that many numbers
 unfoldable pub read-aad-section-into : Mode → ℕ → Reader (List PairAt)
 read-aad-section-into mode room = do
   ps ← read-aad-section mode

@@ -8,8 +8,8 @@ use lib.ListN.{length, drop}
 use Rattle.format.specs.Read.{Answer, accepted, refused, operation}
 use Rattle.format.specs.Serialize.{Bytes, Part, images, same-bytes}
 use Rattle.format.specs.Shared.{by}
-use Rattle.format.specs.Fields.{PairAt, Fields, HeaderBody, fields-of, pair-places, key-places}
-use Rattle.format.specs.Context.{Form, today, old, Mode, tolerant, strict, read-aad-section, find-value}
+use Rattle.format.specs.Fields.{Form, today, old, Pair, PairAt, Fields, HeaderBody, fields-of, pair-places, key-places}
+use Rattle.format.specs.Context.{Mode, tolerant, strict, read-aad-section, find-value}
 use Rattle.format.specs.Keys.{Max, within}
 use Rattle.format.specs.Body.{Which, either, v1-only, v2-only, Opening, read-opening, request, read-header-body, read-header-body-untested, image}
 use Rattle.format.specs.Checks.{Accepts, first}
@@ -19,12 +19,26 @@ use Rattle.format.specs.Lent.{bytes-at, filled, table-checks, BodyToWrit
 
 -- WHAT THE SENTENCES SPEAK OF
 
--- From s on, the message begins with the image, in that form, of fields that today's writer accepts; the tables hold all
--- entries, and the key maximum is not passed.
-pub record Stands (max : Max) (pairRoom keyRoom : ℕ) (m : List ℕ) (s : ℕ) (form : Form) (f : Fields) : Type 0 where
-  pub accepts : Accepts f
+-- The two writers are our one writer, given a mark: today's writer today's; the old writer old where there is no pair, and today's
+-- where there is one.
+pub data Writer : Type 0 where
+  todays the-old : Writer
+
+abbrev pub mark-by : Writer → List Pair → Form
+mark-by todays ps = today
+mark-by the-old [] = old
+mark-by the-old (p ∷ ps) = today
+
+-- what that writer would write of the fields
+abbrev pub image-by : Writer → Fields → List ℕ
+image-by w f = image (mark-by w (f .pairs)) f
+
+-- From s on, the message begins with what the writer would write of fields that it accepts; the tables hold all entries, and the
+-- key maximum is not passed.
+pub record Stands (max : Max) (pairRoom keyRoom : ℕ) (m : List ℕ) (s : ℕ) (w : Writer) (f : Fields) : Type 0 where
+  pub accepts : Accepts (mark-by w (f .pairs)) f
   pub after : List ℕ
-  pub bytes : drop s m ≡ image form f ++ after
+  pub bytes : drop s m ≡ image-by w f ++ after
   pub pairs-held : 4 * length (f .pairs) ≤ pairRoom
   pub keys-held : 6 * length (f .keys) ≤ keyRoom
   pub max-not-passed : within (length (f .keys)) max ≡ true
@@ -43,7 +57,7 @@ pub record HeldBody (m : List ℕ) (b : HeaderBody) : Type 0 where
   pub keys : Each (Held m) (images key-places (b .keys))
   pub suiteData : Held m (b .suiteData)
 
--- A reader gives fields when its numbers, its counts and the bytes at its places are theirs.
+-- A reader gives fields when its numbers, its counts and the bytes at its places are theirs, whatever its mark.
 pub record Gives (m : List ℕ) (b : HeaderBody) (f : Fields) : Type 0 where
   pub fields : fields-of b ≡ f
   pub placed : HeldBody m b
@@ -63,15 +77,17 @@ reaches-old which m s = reached-old m (operation (read-opening which) m s)
 abbrev pub stands-at : ℕ → List ℕ → ℕ → Bool
 stands-at x m s = same-bytes (bytes-at m s 1) (x ∷ [])
 
--- SENTENCE 1. A message of at most 4,294,967,295 bytes: the tolerant either-version reader accepts if and only if an image stands
--- there (`only` and `all`); it then gives those same fields and, as its tail, the end of those bytes. Otherwise, and on any longer
--- message or from a start as far, it answers the first refusal listed that applies, with its position: specs/First has the list.
+-- SENTENCE 1. A message of at most 4,294,967,295 bytes: the tolerant either-version reader accepts if and only if what one of the two
+-- writers would write stands there (`only` and `all`); it then gives those same fields, the mark that this writer is given and, as
+-- its tail, the end of those bytes. Otherwise, and on any longer message or from a start as far, it answers the first refusal listed
+-- that applies, with its position: specs/First has the list.
 pub record Sentence1 (max : Max) (pairRoom keyRoom : ℕ) (m : List ℕ) (s : ℕ) : Type 0 where
   pub only : length m ≤ 4294967295 → (b : HeaderBody) (t : ℕ) → operation (read-header-body either tolerant max pairRoom keyRoom) m s ≡ accepted b t
-      → (form : Form) × (f : Fields) × Stands max pairRoom keyRoom m s form f × Gives m b f × (t ≡ s + length (image form f))
-  pub all : length m ≤ 4294967295 → (form : Form) (f : Fields) → Stands max pairRoom keyRoom m s form f
-      → (b : HeaderBody) × (operation (read-header-body either tolerant max pairRoom keyRoom) m s ≡ accepted b (s + length (image form f))) × Gives m b f
-  pub otherwise : length m ≤ 4294967295 → ((form : Form) (f : Fields) → Stands max pairRoom keyRoom m s form f → ⊥)
+      → (w : Writer) × (f : Fields) × Stands max pairRoom keyRoom m s w f × Gives m b f × (b .form ≡ mark-by w (f .pairs)) × (t ≡ s + length (image-by w f))
+  pub all : length m ≤ 4294967295 → (w : Writer) (f : Fields) → Stands max pairRoom keyRoom m s w f
+      → (b : HeaderBody) × (operation (read-header-body either tolerant max pairRoom keyRoom) m s ≡ accepted b (s + length (image-by w f))) × Gives m b f
+      × (b .form ≡ mark-by w (f .pairs))
+  pub otherwise : length m ≤ 4294967295 → ((w : Writer) (f : Fields) → Stands max pairRoom keyRoom m s w f → ⊥)
       → (k : ℕ) × (p : ℕ) × (operation (read-header-body either tolerant max pairRoom keyRoom) m s ≡ refused k p)
       × FirstApplies (operation-list (body-list (request either tolerant true max pairRoom keyRoom)) m s) k p
   pub listed : FirstRefusal (read-header-body either tolerant max pairRoom keyRoom) (body-list (request either tolerant true max pairRoom keyRoom)) body-here body-end m s
@@ -102,32 +118,42 @@ pub record Sentence3 (mode : Mode) (max : Max) (pairRoom keyRoom : ℕ) (m : Lis
   -- with 20 left untested: by the list in which that line never applies
   pub untested : FirstRefusal (read-header-body-untested mode max pairRoom keyRoom) (body-list (request either mode false max pairRoom keyRoom)) body-here body-end m s
 
+-- THE MARK, of whichever version and mode is asked for: a body is marked old just where the context section that was reached is
+-- 00 02 00 00. So one with a pair is marked today's, and the strict reader never marks old.
+pub record Marks (which : Which) (mode : Mode) (m : List ℕ) (s : ℕ) (b : HeaderBody) : Type 0 where
+  pub by-the-section : b .form ≡ cond (reaches-old which m s) old today
+  pub with-a-pair : (b .pairs ≡ [] → ⊥) → b .form ≡ today
+  pub strictly : mode ≡ strict → b .form ≡ today
+
 -- SENTENCE 4. Today's writer writes an empty context as 00 00 and the old one wrote 00 02 00 00; otherwise the two write the same
--- bytes. Where no refusal applies the writer's output is today's image and its length; reading it back follows from sentence 1.
+-- bytes, and accept the same fields. Where no refusal applies our writer's output is the image by its mark, and its length; reading it
+-- back, which follows from sentence 1, gives the fields and the mark.
 pub record Images (f : Fields) : Type 0 where
-  pub alike : (f .pairs ≡ [] → ⊥) → image old f ≡ image today f
+  pub alike : (f .pairs ≡ [] → ⊥) → image-by the-old f ≡ image-by todays f
   pub front : List ℕ
   pub back : List ℕ
-  pub today-has : f .pairs ≡ [] → image today f ≡ front ++ (0x00 ∷ 0x00 ∷ back)
-  pub old-has : f .pairs ≡ [] → image old f ≡ front ++ (0x00 ∷ 0x02 ∷ 0x00 ∷ 0x00 ∷ back)
+  pub today-has : f .pairs ≡ [] → image-by todays f ≡ front ++ (0x00 ∷ 0x00 ∷ back)
+  pub old-has : f .pairs ≡ [] → image-by the-old f ≡ front ++ (0x00 ∷ 0x02 ∷ 0x00 ∷ 0x00 ∷ back)
   -- the front is what stands before the context section
-  pub front-long : Accepts f → length front ≡ by (f .version) 20 35
+  pub front-long : Accepts today f → length front ≡ by (f .version) 20 35
+  -- 33 is never a writer's, since each is given a mark that fits: what one accepts the other does
+  pub same-accepted : (v w : Writer) → Accepts (mark-by v (f .pairs)) f → Accepts (mark-by w (f .pairs)) f
 
 pub record Sentence4 (w : BodyToWrite) (out : List ℕ) : Type 0 where
   pub images : Images (fields-to-write w)
-  pub writes : Accepts (fields-to-write w) → first (table-checks 4 (w .text) (w .pairTable)) ≡ none → first (table-checks 6 (w .text) (w .keyTable)) ≡ none
-      → length (image today (fields-to-write w)) ≤ length out
-      → (written (writing-header-body w) out ≡ accepted tt (length (image today (fields-to-write w))))
-      × (output-after (writing-header-body w) out ≡ filled (image today (fields-to-write w)) out)
+  pub writes : Accepts (w .form) (fields-to-write w) → first (table-checks 4 (w .text) (w .pairTable)) ≡ none → first (table-checks 6 (w .text) (w .keyTable)) ≡ none
+      → length (image (w .form) (fields-to-write w)) ≤ length out
+      → (written (writing-header-body w) out ≡ accepted tt (length (image (w .form) (fields-to-write w))))
+      × (output-after (writing-header-body w) out ≡ filled (image (w .form) (fields-to-write w)) out)
   -- and where it is accepted, no refusal applied, 26 and 28 among them
   pub only-then : (n : ℕ) → w .frameLength < 4294967296 → written (writing-header-body w) out ≡ accepted tt n
-      → Accepts (fields-to-write w) × (first (table-checks 4 (w .text) (w .pairTable)) ≡ none) × (first (table-checks 6 (w .text) (w .keyTable)) ≡ none)
-      × (n ≡ length (image today (fields-to-write w))) × (n ≤ length out) × (output-after (writing-header-body w) out ≡ filled (image today (fields-to-write w)) out)
+      → Accepts (w .form) (fields-to-write w) × (first (table-checks 4 (w .text) (w .pairTable)) ≡ none) × (first (table-checks 6 (w .text) (w .keyTable)) ≡ none)
+      × (n ≡ length (image (w .form) (fields-to-write w))) × (n ≤ length out) × (output-after (writing-header-body w) out ≡ filled (image (w .form) (fields-to-write w)) out)
   pub read-back : (n : ℕ) → w .frameLength < 4294967296 → written (writing-header-body w) out ≡ accepted tt n → length out ≤ 4294967295
       → (max : Max) (pairRoom keyRoom : ℕ) → 4 * length (fields-to-write w .pairs) ≤ pairRoom → 6 * length (fields-to-write w .keys) ≤ keyRoom
       → within (length (fields-to-write w .keys)) max ≡ true
       → (b : HeaderBody) × (operation (read-header-body either tolerant max pairRoom keyRoom) (output-after (writing-header-body w) out) 0 ≡ accepted b n)
-      × Gives (output-after (writing-header-body w) out) b (fields-to-write w)
+      × Gives (output-after (writing-header-body w) out) b (fields-to-write w) × (b .form ≡ w .form)
 
 -- FIND answers the value of the one pair with that key, and 29 exactly when no pair has it.
 pub data Has (k : List ℕ) : List PairAt → Type 0 where
@@ -152,5 +178,7 @@ pub record Demand3 : Type 0 where
   pub sentence-1 : (max : Max) (pairRoom keyRoom : ℕ) (m : List ℕ) (s : ℕ) → Bytes m → Sentence1 max pairRoom keyRoom m s
   pub sentence-2 : (which : Which) (max : Max) (pairRoom keyRoom : ℕ) (m : List ℕ) (s : ℕ) → Bytes m → Sentence2 which max pairRoom keyRoom m s
   pub sentence-3 : (mode : Mode) (max : Max) (pairRoom keyRoom : ℕ) (m : List ℕ) (s : ℕ) → length m ≤ 4294967295 → Sentence3 mode max pairRoom keyRoom m s
+  pub marks : (which : Which) (mode : Mode) (max : Max) (pairRoom keyRoom : ℕ) (m : List ℕ) (s : ℕ) → Bytes m
+      → (b : HeaderBody) (t : ℕ) → operation (read-header-body which mode max pairRoom keyRoom) m s ≡ accepted b t → Marks which mode m s b
   pub sentence-4 : (w : BodyToWrite) (out : List ℕ) → Sentence4 w out
   pub finds : (k m : List ℕ) (s : ℕ) → Bytes m → Finds k m s

@@ -7,12 +7,16 @@ pub record Pair : Type 0 where
   pub key : List ℕ
   pub value : List ℕ
 
+-- the form in which a context is written, which only an empty one shows: today 00 00, by the old writer 00 02 00 00
+pub data Form : Type 0 where
+  today old : Form
+
 pub record EncryptedDataKey : Type 0 where
   pub keyProviderId : List ℕ
   pub keyProviderInfo : List ℕ
   pub ciphertext : List ℕ
 
--- the fields; two are equal when their bytes and numbers are, whatever their places
+-- the fields; two are equal when their bytes and numbers are, whatever their places. The form is none of them.
 pub record Fields : Type 0 where
   pub version : ℕ
   pub messageType : ℕ
@@ -34,12 +38,13 @@ pub record EncryptedDataKeyAt : Type 0 where
   pub keyProviderInfo : Part
   pub ciphertext : Part
 
--- the record that a body reader gives
+-- the record that a body reader gives: the fields by their places, and, as a mark beside them, the form that the body was read in
 pub record HeaderBody : Type 0 where
   pub version : ℕ
   pub messageType : ℕ
   pub suite : ℕ
   pub messageId : Part
+  pub form : Form
   pub pairs : List PairAt
   pub keys : List EncryptedDataKeyAt
   pub contentType : ℕ
@@ -47,7 +52,7 @@ pub record HeaderBody : Type 0 where
   pub frameLength : ℕ
   pub suiteData : Part
 
--- the fields without their places
+-- the fields without their places, and apart from the mark
 abbrev pub pair-of : PairAt → Pair
 pair-of p = record { key = p .key .bytes; value = p .value .bytes }
 

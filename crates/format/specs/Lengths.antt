@@ -8,7 +8,7 @@ use lib.ListN.{length}
 use Rattle.format.specs.Read.{success, error, no-end, accepted, operation}
 use Rattle.format.specs.Serialize.{Bytes, images}
 use Rattle.format.specs.Shared.{by, suite-version}
-use Rattle.format.specs.Fields.{Pair, PairAt, pair-of, pair-parts, Fields, HeaderBody}
+use Rattle.format.specs.Fields.{Form, Pair, PairAt, pair-of, pair-parts, Fields, HeaderBody}
 use Rattle.format.specs.Context.{linear-length, Mode, read-aad-pair, read-aad-section-into}
 use Rattle.format.specs.Source.{source-read-next-aad-pair}
 use Rattle.format.specs.Keys.{Max}
@@ -56,7 +56,7 @@ pub record Lengths : Type 0 where
   pub body-read : (which : Which) (mode : Mode) (max : Max) (pairRoom keyRoom : ℕ) (m : List ℕ) (s : ℕ) → Bytes m → (b : HeaderBody) (t : ℕ)
       → operation (read-header-body which mode max pairRoom keyRoom) m s ≡ accepted b t
       → Sized (b .version) (b .messageType) (length (b .messageId .bytes)) (b .headerIvLength) (length (b .suiteData .bytes))
-  pub body-written : (f : Fields) → Accepts f → Sized (f .version) (f .messageType) (length (f .messageId)) (f .headerIvLength) (length (f .suiteData))
+  pub body-written : (form : Form) (f : Fields) → Accepts form f → Sized (f .version) (f .messageType) (length (f .messageId)) (f .headerIvLength) (length (f .suiteData))
   -- the authentication record: 12 and 16, of which version 2 stores the tag alone
   pub auth-read : (suite : ℕ) (m : List ℕ) (s : ℕ) → Bytes m → (a : HeaderAuth) (t : ℕ) → operation (read-header-auth-tag suite) m s ≡ accepted a t
       → (length (a .headerIv) ≡ 12) × (length (a .headerAuthTag) ≡ 16) × (t ≡ s + by (suite-version suite) 28 16)

@@ -7,8 +7,8 @@ use lib.Dec.{leb, eqb}
 use lib.ListN.{length, getD, take, drop}
 use Rattle.format.specs.Read.{Answer, accepted, refused}
 use Rattle.format.specs.Serialize.{Part, images, every}
-use Rattle.format.specs.Fields.{Pair, EncryptedDataKey, Fields, PairAt, EncryptedDataKeyAt, HeaderBody, pair-places, key-places}
-use Rattle.format.specs.Context.{today, write-aad-section}
+use Rattle.format.specs.Fields.{Form, Pair, EncryptedDataKey, Fields, PairAt, EncryptedDataKeyAt, HeaderBody, pair-places, key-places}
+use Rattle.format.specs.Context.{write-aad-section}
 use Rattle.format.specs.Keys.{write-encrypted-data-keys-section}
 use Rattle.format.specs.Body.{image}
 use Rattle.format.specs.Auth.{write-header-auth-tag}
@@ -122,7 +122,7 @@ unfoldable pub writing-encrypted-data-keys-section : List ℕ → List ℕ → W
 writing-encrypted-data-keys-section text keys =
     record { checks = table-checks 6 text keys ++ keys-checks (keys-in text keys); image = write-encrypted-data-keys-section (keys-in text keys) }
 
--- what a body writer is handed: the numbers, the ID and suite data as bytes of their own, and one text with both tables
+-- what a body writer is handed: the numbers, the mark, the ID and suite data as bytes of their own, and one text with both tables
 pub record BodyToWrite : Type 0 where
   pub version : ℕ
   pub messageType : ℕ
@@ -130,6 +130,7 @@ pub record BodyToWrite : Type 0 where
   pub contentType : ℕ
   pub headerIvLength : ℕ
   pub frameLength : ℕ
+  pub form : Form
   pub messageId : List ℕ
   pub suiteData : List ℕ
   pub text : List ℕ
@@ -154,8 +155,8 @@ fields-to-write b =
 unfoldable pub writing-header-body : BodyToWrite → Writing
 writing-header-body b =
     record {
-      checks = body-checks (table-checks 4 (b .text) (b .pairTable)) (table-checks 6 (b .text) (b .keyTable)) (fields-to-write b);
-      image = image today (fields-to-write b);
+      checks = body-checks (table-checks 4 (b .text) (b .pairTable)) (table-checks 6 (b .text) (b .keyTable)) (b .form) (fields-to-write b);
+      image = image (b .form) (fields-to-write b);
     }
 
 unfoldable pub writing-header-auth-tag : ℕ → List ℕ → List ℕ → Writing

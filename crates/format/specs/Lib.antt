@@ -16,6 +16,7 @@ pub mod Places
 pub mod First
 pub mod Refusals
 pub mod Demand3
+pub mod WrittenBack
 pub mod Sections
 pub mod Characters
 pub mod Lengths

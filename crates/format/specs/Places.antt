@@ -7,7 +7,7 @@ use lib.Dec.{eqb}
 use lib.ListN.{getD, take, drop}
 use Rattle.format.specs.Serialize.{Part, number, same-bytes}
 use Rattle.format.specs.Shared.{by, suite-version}
-use Rattle.format.specs.Fields.{PairAt, EncryptedDataKeyAt, HeaderBody}
+use Rattle.format.specs.Fields.{Form, today, old, PairAt, EncryptedDataKeyAt, HeaderBody}
 use Rattle.format.specs.Body.{Opening, Closing, whole}
 use Rattle.format.specs.Auth.{HeaderAuth, zeros}
 
@@ -83,6 +83,10 @@ keys-end = items-end key-end
 abbrev pub section-pairs : List ℕ → ℕ → List PairAt
 section-pairs m s = cond (eqb (number16 m s) 0) [] (pairs-here m (number16 m (s + 2)) (s + 2 + 2))
 
+-- the form of a context section: a length of 2, which only a count of 0 can follow, is that of an empty one in its old form
+abbrev pub section-form : List ℕ → ℕ → Form
+section-form m s = cond (eqb (number16 m s) 2) old today
+
 -- the keys of a key section, and the place behind it
 abbrev pub section-keys : List ℕ → ℕ → List EncryptedDataKeyAt
 section-keys m s = keys-here m (number16 m s) (s + 2)
@@ -111,7 +115,7 @@ body-here m s =
     let v1 = eqb (number8 m s) 1 in
     let aad = s + by (number8 m s) 20 35 in
     let edks = entry-end m aad in
-    whole (opening-here v1 m (s + 1)) (section-pairs m aad) (section-keys m edks) (closing-here v1 m (section-keys-end m edks))
+    whole (opening-here v1 m (s + 1)) (record { form = section-form m aad; pairs = section-pairs m aad }) (section-keys m edks) (closing-here v1 m (section-keys-end m edks))
 
 abbrev pub body-end : List ℕ → ℕ → ℕ
 body-end m s = closing-end (eqb (number8 m s) 1) (section-keys-end m (entry-end m (s + by (number8 m s) 20 35)))

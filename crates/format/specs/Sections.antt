@@ -9,8 +9,8 @@ use lib.ListN.{length, drop}
 use Rattle.format.specs.Read.{accepted, refused, operation}
 use Rattle.format.specs.Serialize.{Bytes, images}
 use Rattle.format.specs.Shared.{suite-version, iv-length}
-use Rattle.format.specs.Fields.{Pair, PairAt, pair-of, pair-places, EncryptedDataKey, EncryptedDataKeyAt, key-of, key-places}
-use Rattle.format.specs.Context.{Form, today, old, section-in, Mode, tolerant, strict, read-aad-section-into}
+use Rattle.format.specs.Fields.{Form, today, old, Pair, PairAt, pair-of, pair-places, EncryptedDataKey, EncryptedDataKeyAt, key-of, key-places}
+use Rattle.format.specs.Context.{section-in, Mode, tolerant, strict, read-aad-section-into}
 use Rattle.format.specs.Keys.{Max, within, write-encrypted-data-keys-section, read-encrypted-data-keys-section-into}
 use Rattle.format.specs.Auth.{HeaderAuth, zeros, read-header-auth-tag, write-header-auth-tag}
 use Rattle.format.specs.Checks.{first, pairs-checks, keys-checks, auth-checks}

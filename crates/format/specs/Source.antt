@@ -1,5 +1,5 @@
 -- EncryptionContext.dfy as its function bodies read: the source holds no part of a context section to the section's end, and tests what
--- the pairs take instead. What document 01 adds to the source, the strict mode, the tables and the numbers, is in both readings, so that
+-- the pairs take instead. What documents 01 and 02 add to the source, the strict mode, the tables, the numbers and the mark, is in both readings, so that
 -- they differ in nothing else. It is kept to be compared with (specs/SourceEquality); no contract cites it. Assumes nothing.
 use mathlib.Core.Bool.{Bool, true, false, not}
 use mathlib.Core.List.{List, [], map}
@@ -9,7 +9,7 @@ use lib.ListN.{length}
 use Rattle.format.specs.Read.{Reader, _>>=_, _>>_, return, test, no-end, framed}
 use Rattle.format.specs.Serialize.{Part, read-uint16}
 use Rattle.format.specs.Fields.{PairAt, pair-of, HeaderBody}
-use Rattle.format.specs.Context.{seen, pair-length, linear-length, pairs-limit, Mode, tolerant, read-aad-pair, read-aad-by, look-up}
+use Rattle.format.specs.Context.{seen, pair-length, linear-length, pairs-limit, Mode, tolerant, read-aad-pair, read-aad-by, with-mark, look-up}
 use Rattle.format.specs.OnlyAuthenticated.{only-authenticated, in-twos, fitting}
 use Rattle.format.specs.Body.{Opening, read-opening, Request, after-context}
 
@@ -51,7 +51,7 @@ source-write-only-authenticated text required room = do
   fitting room (only-authenticated text required ps)
 
 unfoldable pub source-after-opening : Request → Opening → Reader HeaderBody
-source-after-opening q o = source-read-aad-section (q .mode) >>= after-context q o
+source-after-opening q o = with-mark (source-read-aad-section (q .mode)) >>= after-context q o
 
 unfoldable pub source-read-body : Request → Reader HeaderBody
 source-read-body q = read-opening (q .which) >>= source-after-opening q

@@ -11,11 +11,12 @@ use lib.ListN.{length, length-append}
 use Rattle.format.specs.Read.{Answer, accepted, refused, operation}
 use Rattle.format.specs.Serialize.{Bytes, Part, images, every}
 use Rattle.format.specs.Shared.{one-or-two}
-use Rattle.format.specs.Fields.{Pair, EncryptedDataKey, Fields, PairAt, EncryptedDataKeyAt, HeaderBody, pair-of, key-of, pair-places, key-places, fields-of}
-use Rattle.format.specs.Context.{Form, today, old, tolerant, write-aad-pair, write-aad-pairs, write-aad, write-aad-section, write-expanded-aad-section, section-in}
+use Rattle.format.specs.Fields.{Form, today, old, Pair, EncryptedDataKey, Fields, PairAt, EncryptedDataKeyAt, HeaderBody, pair-of, key-of, pair-places, key-places, fields-of}
+use Rattle.format.specs.Context.{tolerant, write-aad-pair, write-aad-pairs, write-aad, write-aad-section, write-expanded-aad-section, section-in}
 use Rattle.format.specs.Keys.{no-max, write-encrypted-data-key, write-encrypted-data-keys, write-encrypted-data-keys-section}
 use Rattle.format.specs.Body.{either, Request, request, read-body, read-header-body, write-opening-of, write-closing-of, image}
 use Rattle.format.specs.Refusals.{opening-refusals, section-refusals, reserved-refusals, frame-refusals, closing-refusals, body-refusals, Refusal}
+use Rattle.format.specs.Demand3.{mark-by}
 use Rattle.format.proofs.Tests.{is-eqb}
 use Rattle.format.proofs.Serialize.{length-uint16, length-uint32, length-entry}
 use Rattle.format.proofs.Context.{length-pair}
@@ -155,14 +156,15 @@ module _ (m : List ℕ) (hb : Bytes m) where
   accepted-fits b t e =
       let few : length m ≤ 4294967295 = few-bytes m b t e in
       let z = demand-3 .sentence-1 no-max 4096 4096 m 0 hb .only few b t e in
+      let form = mark-by (z .0) (z .1 .pairs) in
       let v : z .1 .version ≡ b .version = sym (ap (λ (f : Fields). f .version) (z .3 .fields)) in
       let f : z .1 .frameLength ≡ b .frameLength = sym (ap (λ (f : Fields). f .frameLength) (z .3 .fields)) in
-      let version : z .1 .version < 10 = small-version (z .1 .version) (good (z .1) (z .2 .accepts) .top .t3) in
+      let version : z .1 .version < 10 = small-version (z .1 .version) (good form (z .1) (z .2 .accepts) .top .t3) in
       let frame = z .2 .accepts .frame-is-32-bits in
-      let bytes : length m ≡ length (image (z .0) (z .1)) + length (z .2 .after) = ap length (z .2 .bytes) ∙ rw length-append in
-      let tail : t ≡ 0 + length (image (z .0) (z .1)) = z .4 in
-      let text = body-short (z .0) b t (header-short b t (omega arith) (omega arith) (omega arith)) in
-      let same : length (image (z .0) (fields-of b)) ≡ length (image (z .0) (z .1)) = ap (λ (f : Fields). length (image (z .0) f)) (z .3 .fields) in
+      let bytes : length m ≡ length (image form (z .1)) + length (z .2 .after) = ap length (z .2 .bytes) ∙ rw length-append in
+      let tail : t ≡ 0 + length (image form (z .1)) = z .5 in
+      let text = body-short form b t (header-short b t (omega arith) (omega arith) (omega arith)) in
+      let same : length (image form (fields-of b)) ≡ length (image form (z .1)) = ap (λ (f : Fields). length (image form f)) (z .3 .fields) in
       omega arith
 
   abbrev asked : Request

@@ -7,9 +7,9 @@ use mathlib.Core.List.{List}
 use lib.ListN.{length}
 use Rattle.format.specs.Read.{Answer, accepted, refused, operation}
 use Rattle.format.specs.Serialize.{Bytes}
-use Rattle.format.specs.Fields.{Fields, fields-of}
+use Rattle.format.specs.Fields.{today, old, Fields, fields-of}
 use Rattle.format.specs.Fields.{HeaderBody as BodyRead}
-use Rattle.format.specs.Context.{Form, Mode, tolerant, strict}
+use Rattle.format.specs.Context.{Mode, tolerant, strict}
 use Rattle.format.specs.Keys.{Max}
 use Rattle.format.specs.Body.{Which, either, tests-frames, request, read-body, read-header-body}
 use Rattle.format.specs.Places.{body-here, body-end}
@@ -18,13 +18,14 @@ use Rattle.format.specs.Demand3.{Stands, Gives, reaches-old}
 use Rattle.format.proofs.FirstBody.{first-refusals}
 use Rattle.format.proofs.Filled.{pair-table, key-table}
 use Rattle.format.proofs.Demand3.{demand-3}
+use Rattle.fields.specs.Codes.{form-number}
 use Rattle.wire.specs.Codes.{because}
 use Rattle.wire.specs.declared.Refusal.{Refusal}
 use Rattle.body_reader.specs.Codes.{body-code, body-of}
 use Rattle.body_reader.specs.declared.HeaderBody.{HeaderBody}
 use Rattle.body_reader.specs.declared.HeaderBodyAnswer.{HeaderBodyAnswer}
 use Rattle.body_reader.specs.declared.HeaderBodyAnswer.the-variants.{Accepted, Refused}
-use Rattle.promises.specs.Reader.{Call, reading, Meets, Accepts, GivesFields, Refuses, Listed, Sentence1, Sentence2, Sentence3, ReaderPromises}
+use Rattle.promises.specs.Reader.{Call, reading, Meets, Accepts, GivesFields, Refuses, Listed, Sentence1, Sentence2, Sentence3, Marks, ReaderPromises}
 
 module _ (c : Call) (o : Answer BodyRead) (call : Meets o c) where
   pub accepts : (b : BodyRead) (t : ℕ) → o ≡ accepted b t → Accepts c b t
@@ -53,7 +54,14 @@ module _ (m : List ℕ) (c : Call) (b : BodyRead) (f : Fields) (t : ℕ) (given 
   gives-record : (x : HeaderBody) → c .answer ≡ Accepted x t → GivesFields m c x f
   gives-record x e = let a : c .answer ≡ Accepted (body-code b) t = call .answer in let z : body-code b ≡ x = cc in rw (← z) gives-fields
 
-accepted-is : (r : HeaderBodyAnswer) (o : Answer BodyRead) → r ≡ body-of o → (x : HeaderBody) (t : ℕ) → r ≡ Accepted x t → (b : BodyRead) × (o ≡ accepted b t)
+-- the mark, as the code's record has it
+form-is : (c : Call) (b : BodyRead) (x : HeaderBody) (t : ℕ) → Accepts c b t → c .answer ≡ Accepted x t → x .numbers .form ≡ form-number (b .form)
+form-is c b x t call e = let a : c .answer ≡ Accepted (body-code b) t = call .answer in let z : body-code b ≡ x = cc in rw (← z) refl
+
+pairs-are : (c : Call) (b : BodyRead) (x : HeaderBody) (t : ℕ) → Accepts c b t → c .answer ≡ Accepted x t → x .pairCount ≡ length (b .pairs)
+pairs-are c b x t call e = let a : c .answer ≡ Accepted (body-code b) t = call .answer in let z : body-code b ≡ x = cc in rw (← z) refl
+
+pub accepted-is : (r : HeaderBodyAnswer) (o : Answer BodyRead) → r ≡ body-of o → (x : HeaderBody) (t : ℕ) → r ≡ Accepted x t → (b : BodyRead) × (o ≡ accepted b t)
 accepted-is r (accepted b u) e x t f = (b, ap (accepted b) (cc))
 accepted-is r (refused k p) e x t f = let z : _≡_ {A = ℕ} 0 1 = cc in absurd (omega arith)
 
@@ -86,8 +94,8 @@ module _ (max : Max) (m : List ℕ) (s : ℕ) (c : Call) (bytes : Bytes m) (call
             (let (b, q) = accepted-is (c .answer) said (call .answer) x tail e in
             let y = law .only h b tail q in
             let a = accepts c said call b tail q in
-            (y .0, y .1, b, y .2, y .3, a, y .4, gives-record m c b (y .1) tail (y .3) a x e));
-        all = λ h form f e. (let y = law .all h form f e in let a = accepts c said call (y .0) _ (y .1) in (y .0, a, y .2, gives-fields m c (y .0) f _ (y .2) a));
+            (y .0, y .1, b, y .2, y .3, a, y .5, gives-record m c b (y .1) tail (y .3) a x e, form-is c b x tail a e ∙ ap form-number (y .4)));
+        all = λ h w f e. (let y = law .all h w f e in let a = accepts c said call (y .0) _ (y .1) in (y .0, a, y .2, gives-fields m c (y .0) f _ (y .2) a, ap form-number (y .3)));
         otherwise = λ h none. (let y = law .otherwise h none in (y .0, y .1, refuses c said call (y .0) (y .1) (y .2), y .3));
         longer = λ h. refuses c said call 1 0 (law .longer h);
         farther = λ h. refuses c said call 1 0 (law .farther h);
@@ -116,5 +124,22 @@ sentence-3 mode max m s c h =
     let law = demand-3 .sentence-3 mode max (length (c .pairs)) (length (c .keys)) m s h in
     record { version-1 = λ call. rw (law .version-1) at call; version-2 = λ call. rw (law .version-2) at call }
 
+module _ (which : Which) (mode : Mode) (max : Max) (m : List ℕ) (s : ℕ) (c : Call) (bytes : Bytes m) (call : Meets (reading which mode max m s c) c) (x : HeaderBody) (tail : ℕ) (e : c .answer ≡ Accepted x tail) where
+  marks : Marks which mode m s x
+  marks =
+      let (b, q) = accepted-is (c .answer) (reading which mode max m s c) (call .answer) x tail e in
+      let a = accepts c (reading which mode max m s c) call b tail q in
+      let law = demand-3 .marks which mode max (length (c .pairs)) (length (c .keys)) m s bytes b tail q in
+      let f = form-is c b x tail a e in
+      record {
+        by-the-section = f ∙ ap form-number (law .by-the-section) ∙ numbered (reaches-old which m s);
+        with-a-pair = λ h. f ∙ ap form-number (law .with-a-pair (λ none. h (pairs-are c b x tail a e ∙ ap length none)));
+        strictly = λ k. f ∙ ap form-number (law .strictly k);
+      }
+    where
+      numbered : (b : Bool) → form-number (cond b old today) ≡ cond b 1 0
+      numbered true = refl
+      numbered false = refl
+
 pub reader-promises : ReaderPromises
-reader-promises = record { listed = listed; sentence-1 = sentence-1; sentence-2 = sentence-2; sentence-3 = sentence-3 }
+reader-promises = record { listed = listed; sentence-1 = sentence-1; sentence-2 = sentence-2; sentence-3 = sentence-3; marks = marks }

@@ -23,7 +23,7 @@ use Rattle.checks.specs.declared.WriteAnswer.{WriteAnswer}
 use Rattle.checks.specs.declared.WriteAnswer.the-variants.{Written, Refused}
 use Rattle.body_write.specs.Lent.{body-to-write}
 use Rattle.promises.specs.Reader.{Call, reading, Meets, Accepts}
-use Rattle.promises.specs.Writer.{all-checks, ByChecks, Write, lent, fields, its-image, MeetsWriter, NoneApplies, Sentence4, WriterPromises}
+use Rattle.promises.specs.Writer.{all-checks, ByChecks, Write, lent, fields, mark, its-image, MeetsWriter, NoneApplies, Sentence4, WriterPromises}
 use Rattle.promises.proofs.Reader.{accepts}
 
 written-is : (r : WriteAnswer) (o : Answer (Unit {0})) → r ≡ write-answer-of o → (n : ℕ) → r ≡ Written n → o ≡ accepted tt n
@@ -92,10 +92,11 @@ module _ (w : Write) (wide : w .numbers .frameLength < 4294967296) (call : Meets
 
   read-back : (n : ℕ) → w .answer ≡ Written n → length (w .before) ≤ 4294967295 → (max : Max) (c : Call) → Meets (reading either tolerant max (w .after) 0 c) c
       → 4 * length (fields w .pairs) ≤ length (c .pairs) → 6 * length (fields w .keys) ≤ length (c .keys) → within (length (fields w .keys)) max ≡ true
-      → (b : BodyRead) × Accepts c b n × Gives (w .after) b (fields w)
+      → (b : BodyRead) × Accepts c b n × Gives (w .after) b (fields w) × (b .form ≡ mark w)
+  unfolding body-to-write
   read-back n e few max c read hp hk hm =
-      let (b, said, gives) = law .read-back n wide-lent (written-is (w .answer) _ (call .answer) n e) few max (length (c .pairs)) (length (c .keys)) hp hk hm in
-      (b, accepts c _ read b n (ap (λ o. reading either tolerant max o 0 c) (call .output) ∙ said), subst (λ (o : List ℕ). Gives o b (fields w)) (sym (call .output)) gives)
+      let (b, said, gives, marked) = law .read-back n wide-lent (written-is (w .answer) _ (call .answer) n e) few max (length (c .pairs)) (length (c .keys)) hp hk hm in
+      (b, accepts c _ read b n (ap (λ o. reading either tolerant max o 0 c) (call .output) ∙ said), subst (λ (o : List ℕ). Gives o b (fields w)) (sym (call .output)) gives, marked)
 
   pub sentence-4 : Sentence4 w
   sentence-4 =

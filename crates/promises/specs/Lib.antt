@@ -1,5 +1,6 @@
 pub mod Reader
 pub mod Writer
+pub mod WrittenBack
 pub mod Listed
 pub mod OnlyAuthenticated
 pub mod Source

@@ -9,13 +9,14 @@ use Rattle.format.specs.Read.{Answer, refused, operation}
 use Rattle.format.specs.Serialize.{Bytes}
 use Rattle.format.specs.Fields.{Fields}
 use Rattle.format.specs.Fields.{HeaderBody as BodyRead}
-use Rattle.format.specs.Context.{Form, Mode, tolerant, strict}
+use Rattle.format.specs.Context.{Mode, tolerant, strict}
 use Rattle.format.specs.Keys.{Max}
-use Rattle.format.specs.Body.{Which, either, v1-only, v2-only, tests-frames, request, read-header-body, read-header-body-untested, image}
+use Rattle.format.specs.Body.{Which, either, v1-only, v2-only, tests-frames, request, read-header-body, read-header-body-untested}
 use Rattle.format.specs.Lent.{bytes-at, filled, pair-numbers, key-numbers, items, pair-in, key-in}
 use Rattle.format.specs.Places.{body-here, body-end}
 use Rattle.format.specs.First.{FirstApplies, NoneApplies, Line, operation-list, body-list}
-use Rattle.format.specs.Demand3.{Stands, Gives, reaches-old, stands-at}
+use Rattle.format.specs.Demand3.{Writer, mark-by, image-by, Stands, Gives, reaches-old, stands-at}
+use Rattle.fields.specs.Codes.{form-number}
 use Rattle.wire.specs.Codes.{because}
 use Rattle.wire.specs.declared.Refusal.{Refusal}
 use Rattle.body_reader.specs.Codes.{body-code, ReadsBody}
@@ -74,13 +75,18 @@ pub record Listed (which : Which) (mode : Mode) (max : Max) (m : List ℕ) (s : 
   pub applies : (k p : ℕ) → FirstApplies (listed which mode max m s c) k p → Refuses c k p
   pub accepts : NoneApplies (listed which mode max m s c) → Accepts c (body-here m s) (body-end m s)
 
+-- and its mark is the one that a writer is given who would write them
+abbrev pub Marked : HeaderBody → Writer → Fields → Type 0
+Marked x w f = x .numbers .form ≡ form-number (mark-by w (f .pairs))
+
 -- SENTENCE 1, of the tolerant either-version reader
 pub record Sentence1 (max : Max) (m : List ℕ) (s : ℕ) (c : Call) : Type 0 where
   pub only : length m ≤ 4294967295 → (x : HeaderBody) (tail : ℕ) → c .answer ≡ Accepted x tail
-      → (form : Form) × (f : Fields) × (b : BodyRead) × Stands max (length (c .pairs)) (length (c .keys)) m s form f × Gives m b f × Accepts c b tail × (tail ≡ s + length (image form f)) × GivesFields m c x f
-  pub all : length m ≤ 4294967295 → (form : Form) (f : Fields) → Stands max (length (c .pairs)) (length (c .keys)) m s form f
-      → (b : BodyRead) × Accepts c b (s + length (image form f)) × Gives m b f × GivesFields m c (body-code b) f
-  pub otherwise : length m ≤ 4294967295 → ((form : Form) (f : Fields) → Stands max (length (c .pairs)) (length (c .keys)) m s form f → ⊥)
+      → (w : Writer) × (f : Fields) × (b : BodyRead) × Stands max (length (c .pairs)) (length (c .keys)) m s w f × Gives m b f × Accepts c b tail × (tail ≡ s + length (image-by w f))
+      × GivesFields m c x f × Marked x w f
+  pub all : length m ≤ 4294967295 → (w : Writer) (f : Fields) → Stands max (length (c .pairs)) (length (c .keys)) m s w f
+      → (b : BodyRead) × Accepts c b (s + length (image-by w f)) × Gives m b f × GivesFields m c (body-code b) f × Marked (body-code b) w f
+  pub otherwise : length m ≤ 4294967295 → ((w : Writer) (f : Fields) → Stands max (length (c .pairs)) (length (c .keys)) m s w f → ⊥)
       → (k : ℕ) × (p : ℕ) × Refuses c k p × FirstApplies (listed either tolerant max m s c) k p
   pub longer : 4294967295 < length m → Refuses c 1 0
   pub farther : 4294967295 < s → Refuses c 1 0
@@ -98,9 +104,18 @@ pub record Sentence3 (mode : Mode) (max : Max) (m : List ℕ) (s : ℕ) (c : Cal
   pub version-2 : Meets (reading v2-only mode max m s c) c
       → Meets (cond (stands-at 1 m s) (refused 4 0) (operation (read-header-body-untested mode max (length (c .pairs)) (length (c .keys))) m s)) c
 
+-- THE MARK of an accepted body, whichever version and mode is asked for: 1 just where the context section that was reached is
+-- 00 02 00 00; 0 where there is a pair, and in the strict mode
+pub record Marks (which : Which) (mode : Mode) (m : List ℕ) (s : ℕ) (x : HeaderBody) : Type 0 where
+  pub by-the-section : x .numbers .form ≡ cond (reaches-old which m s) 1 0
+  pub with-a-pair : (x .pairCount ≡ 0 → ⊥) → x .numbers .form ≡ 0
+  pub strictly : mode ≡ strict → x .numbers .form ≡ 0
+
 pub record ReaderPromises : Type 0 where
   pub listed : (which : Which) (mode : Mode) (max : Max) (m : List ℕ) (s : ℕ) (c : Call) → Meets (reading which mode max m s c) c → Listed which mode max m s c
   pub sentence-1 : (max : Max) (m : List ℕ) (s : ℕ) (c : Call) → Bytes m → Meets (reading either tolerant max m s c) c → Sentence1 max m s c
   pub sentence-2 : (which : Which) (max : Max) (m : List ℕ) (s : ℕ) (c d : Call) → Bytes m → Meets (reading which tolerant max m s c) c → Meets (reading which strict max m s d) d
       → c .pairs ≡ d .pairs → c .keys ≡ d .keys → Sentence2 which m s c d
   pub sentence-3 : (mode : Mode) (max : Max) (m : List ℕ) (s : ℕ) (c : Call) → length m ≤ 4294967295 → Sentence3 mode max m s c
+  pub marks : (which : Which) (mode : Mode) (max : Max) (m : List ℕ) (s : ℕ) (c : Call) → Bytes m → Meets (reading which mode max m s c) c
+      → (x : HeaderBody) (tail : ℕ) → c .answer ≡ Accepted x tail → Marks which mode m s x

@@ -7,9 +7,9 @@ use mathlib.Core.Option.{none}
 use mathlib.Core.List.{List, [], _∷_, _++_}
 use lib.Dec.{leb}
 use lib.ListN.{length}
-use Rattle.format.specs.Fields.{Fields}
+use Rattle.format.specs.Fields.{Form, Fields}
 use Rattle.format.specs.Fields.{HeaderBody as BodyRead}
-use Rattle.format.specs.Context.{today, tolerant}
+use Rattle.format.specs.Context.{tolerant}
 use Rattle.format.specs.Keys.{Max, within}
 use Rattle.format.specs.Body.{either, image}
 use Rattle.format.specs.Checks.{Check, check, first}
@@ -23,6 +23,7 @@ use Rattle.checks.specs.Answers.{Writes}
 use Rattle.checks.specs.declared.WriteAnswer.{WriteAnswer}
 use Rattle.checks.specs.declared.WriteAnswer.the-variants.{Written, Refused}
 use Rattle.body_write.specs.Lent.{body-to-write}
+use Rattle.fields.specs.Codes.{form-of, form-named}
 use Rattle.fields.specs.declared.BodyNumbers.{BodyNumbers}
 use Rattle.promises.specs.Reader.{Call, reading, Meets, Accepts}
 
@@ -54,36 +55,39 @@ pub record Write : Type 0 where
 abbrev pub lent : Write → BodyToWrite
 lent w = body-to-write (w .numbers) (w .messageId) (w .suiteData) (w .text) (w .pairs) (w .keys)
 
--- the fields that the call is to write, and today's image of them
+-- the fields that the call is to write, the mark that its number names, and the image of the fields by that mark
 abbrev pub fields : Write → Fields
 fields w = fields-to-write (lent w)
 
+abbrev pub mark : Write → Form
+mark w = form-of (form-named (w .numbers .form))
+
 abbrev pub its-image : Write → List ℕ
-its-image w = image today (fields w)
+its-image w = image (mark w) (fields w)
 
 -- the call meets the contract
 abbrev pub MeetsWriter : Write → Type 0
 MeetsWriter w = Writes (writing-header-body (lent w)) (w .before) (w .after) (w .answer)
 
--- no refusal of a body write applies: today's writer accepts the fields, 26 does not apply to either table, and 28 does not
+-- no refusal of a body write applies: our writer accepts the fields with the mark, 26 does not apply to either table, and 28 does not
 pub record NoneApplies (w : Write) : Type 0 where
-  pub accepts : WriterAccepts (fields w)
+  pub accepts : WriterAccepts (mark w) (fields w)
   pub pairs : first (table-checks 4 (w .text) (w .pairs)) ≡ none
   pub keys : first (table-checks 6 (w .text) (w .keys)) ≡ none
   pub fits : length (its-image w) ≤ length (w .before)
 
 -- SENTENCE 4. The frame length of a call has 32 bits, as its type says.
 pub record Sentence4 (w : Write) : Type 0 where
-  -- it accepts where none applies, and only there; the output then begins with today's image, and keeps what lies behind it
+  -- it accepts where none applies, and only there; the output then begins with the image, and keeps what lies behind it
   pub writes : NoneApplies w → (w .answer ≡ Written (length (its-image w))) × (w .after ≡ filled (its-image w) (w .before))
   pub only-then : (n : ℕ) → w .answer ≡ Written n → NoneApplies w × (n ≡ length (its-image w)) × (w .after ≡ filled (its-image w) (w .before))
   -- otherwise it refuses by the first check that fails
   pub checked : ByChecks (writing-header-body (lent w)) (w .before) (w .after) (w .answer)
-  -- a call of the tolerant either-version reader on that output, its tables long enough and its maximum not passed, gives the fields
+  -- a call of the tolerant either-version reader on that output, its tables long enough and its maximum not passed, gives the fields and the mark
   pub read-back : (n : ℕ) → w .answer ≡ Written n → length (w .before) ≤ 4294967295
       → (max : Max) (c : Call) → Meets (reading either tolerant max (w .after) 0 c) c
       → 4 * length (fields w .pairs) ≤ length (c .pairs) → 6 * length (fields w .keys) ≤ length (c .keys) → within (length (fields w .keys)) max ≡ true
-      → (b : BodyRead) × Accepts c b n × Gives (w .after) b (fields w)
+      → (b : BodyRead) × Accepts c b n × Gives (w .after) b (fields w) × (b .form ≡ mark w)
 
 pub record WriterPromises : Type 0 where
   pub writers : (w : Writing) (before after : List ℕ) (r : WriteAnswer) → Writes w before after r → ByChecks w before after r

@@ -8,24 +8,37 @@ use checks::keys::check_keys;
 use checks::pairs::check_pairs;
 use checks::refuses;
 use checks::tables::entries_size;
+use fields::Form;
 use wire::refusals::OUTPUT_TOO_SHORT;
 use wire::writing::write_uint16;
 ghost use mathlib.Core.Path.{_≡_};
-ghost use Prim.Native.Nat.{_+_, _/_, _≤_, _<_};
+ghost use Prim.Native.Nat.{_+_, _≤_, _<_};
 ghost use lib.ListN.{length};
-ghost use Rattle.format.specs.Lent.{writing-aad-section, writing-encrypted-data-keys-section};
+ghost use Rattle.format.specs.Context.{write-expanded-aad-section, section-in};
+ghost use Rattle.format.specs.Lent.{pairs-in, writing-aad-section, writing-encrypted-data-keys-section};
 ghost use Rattle.wire.specs.Stored.{stored};
 ghost use Rattle.format.specs.Checks.{first};
 ghost use Rattle.checks.specs.Answers.{checked, Writes};
 ghost use Rattle.checks.specs.Table.{Passed, entries-size};
-ghost use Rattle.section_write.specs.Sizes.{aad-section-size, keys-section-size, PairsReady, KeysReady};
+ghost use Rattle.fields.specs.Codes.{form-of};
+ghost use Rattle.section_write.specs.Sizes.{length-alone, aad-section-size, keys-section-size, PairsReady, KeysReady};
 
-// How many bytes the context section takes.
-pub fn aad_section_size(pairs: &[u32]) -> usize
-    requires { ⌜ length (now pairs) < 4194304 ⌝ }
-    ensures { λ r. ⌜ (r ≡ aad-section-size (now (pairs .entry))) × (r < 18014398509481984) ⌝ }
+// An empty context in today's form is its length 0 alone.
+fn is_length_alone(form: Form, pairs: &[u32]) -> bool
+    ensures { λ r. ⌜ r ≡ length-alone (form-of form) (now (pairs .entry)) ⌝ }
 {
-    if pairs.len() / 4 == 0 {
+    match form {
+        Form::Today => pairs.len() / 4 == 0,
+        Form::Old => false,
+    }
+}
+
+// How many bytes the context section takes, in that form.
+pub fn aad_section_size(form: Form, pairs: &[u32]) -> usize
+    requires { ⌜ length (now pairs) < 4194304 ⌝ }
+    ensures { λ r. ⌜ (r ≡ aad-section-size (form-of form) (now (pairs .entry))) × (r < 18014398509481984) ⌝ }
+{
+    if is_length_alone(form, pairs) {
         return 2;
     }
     4 + entries_size(pairs)
@@ -39,10 +52,10 @@ pub fn keys_section_size(keys: &[u32]) -> usize
     2 + entries_size(keys)
 }
 
-// WriteExpandedAADSection, of one pair or more: the length of what follows, the count, the pairs.
+// WriteExpandedAADSection: the length of what follows, the count, the pairs.
 fn put_expanded_aad_section(text: &[u8], pairs: &[u32], out: &mut [u8])
-    requires { ⌜ (Passed 4 (now text) (now pairs)) × (entries-size (now pairs) < 65534) × (length (now pairs) / 4 ≡ 0 → ⊥) × (4 + entries-size (now pairs) ≤ length (now out)) ⌝ }
-    ensures { λ _. ⌜ now (out .exit) ≡ stored (now (out .entry)) 0 (writing-aad-section (now (text .entry)) (now (pairs .entry)) .image) ⌝ }
+    requires { ⌜ (Passed 4 (now text) (now pairs)) × (entries-size (now pairs) < 65534) × (4 + entries-size (now pairs) ≤ length (now out)) ⌝ }
+    ensures { λ _. ⌜ now (out .exit) ≡ stored (now (out .entry)) 0 (write-expanded-aad-section (pairs-in (now (text .entry)) (now (pairs .entry)))) ⌝ }
 {
     let size = entries_size(pairs);
     write_uint16(out, 0, (2 + size) as u16);
@@ -50,12 +63,12 @@ fn put_expanded_aad_section(text: &[u8], pairs: &[u32], out: &mut [u8])
     entries::put_entries(text, pairs, out, 4);
 }
 
-// WriteAADSection, from the first byte of what is lent: an empty context is its length 0 alone.
-pub fn put_aad_section(text: &[u8], pairs: &[u32], out: &mut [u8])
-    requires { ⌜ PairsReady (now text) (now pairs) (length (now out)) ⌝ }
-    ensures { λ _. ⌜ now (out .exit) ≡ stored (now (out .entry)) 0 (writing-aad-section (now (text .entry)) (now (pairs .entry)) .image) ⌝ }
+// WriteAADSection in today's form, and in the old one WriteExpandedAADSection, from the first byte of what is lent.
+pub fn put_aad_section(form: Form, text: &[u8], pairs: &[u32], out: &mut [u8])
+    requires { ⌜ PairsReady (form-of form) (now text) (now pairs) (length (now out)) ⌝ }
+    ensures { λ _. ⌜ now (out .exit) ≡ stored (now (out .entry)) 0 (section-in (form-of form) (pairs-in (now (text .entry)) (now (pairs .entry)))) ⌝ }
 {
-    if pairs.len() / 4 == 0 {
+    if is_length_alone(form, pairs) {
         write_uint16(out, 0, 0);
         return;
     }
@@ -79,11 +92,11 @@ pub fn write_aad_section(text: &[u8], pairs: &[u32], out: &mut [u8]) -> WriteAns
     if let Checked::Fails(r) = c {
         return WriteAnswer::Refused(r);
     }
-    let size = aad_section_size(pairs);
+    let size = aad_section_size(Form::Today, pairs);
     if out.len() < size {
         return refuses(OUTPUT_TOO_SHORT);
     }
-    put_aad_section(text, pairs, out);
+    put_aad_section(Form::Today, text, pairs, out);
     WriteAnswer::Written(size)
 }
 

@@ -98,3 +98,6 @@ pub const REQUIRED_TABLE_OR_PLACE: u8 = 31;
 
 // A count, an entry's length or its bytes would end past the context section.
 pub const PAST_SECTION: u8 = 32;
+
+// A body that is marked as of the old form has a pair.
+pub const PAIR_IN_OLD_FORM: u8 = 33;
