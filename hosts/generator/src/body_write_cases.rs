@@ -86,8 +86,16 @@ pub fn body_write_case(seed: u64) -> BodyWriteCase {
 /// A mark that is no fault: today's, or without pairs any.
 fn sound_mark(random: &mut Random, pairs: &[Pair]) -> u32 {
     match pairs.is_empty() && random.one_in(2) {
-        true => random.pick(&OLD_MARKS),
+        true => old_mark(random),
         false => 0,
+    }
+}
+
+/// Any number but 0.
+fn old_mark(random: &mut Random) -> u32 {
+    match random.below(3) {
+        0 => random.between(1, u64::from(u32::MAX)) as u32,
+        _ => random.pick(&OLD_MARKS),
     }
 }
 
@@ -134,7 +142,7 @@ fn spoil(random: &mut Random, fields: &mut Fields, first: bool, fault: u32, faul
         }
         24 => fields.id = wrong_length(random, &[if first { 16 } else { 32 }]),
         25 => fields.suite_data = wrong_length(random, &[if first { 0 } else { 32 }]),
-        33 => fields.form = random.pick(&OLD_MARKS),
+        33 => fields.form = old_mark(random),
         _ => {}
     }
 }
