@@ -1,12 +1,12 @@
 //! What is written is read again, and what is read is written again.
 
-use bafirolen::{Draft, Form, Mode, Numbers, Which};
+use bafirolen::{Draft, Form, Mode, Numbers, Request, Which, FRAMED};
 use compare_header::expected::parts_are;
 use compare_header::numbers::{number, numbers, Body};
 use compare_header::reads::Tables;
 use compare_header::scale::seeds;
 use compare_header::{compared, reads, request, requests, writes};
-use generator::body_cases::body_case;
+use generator::body_cases::{body_case, BodyCase};
 use generator::fields::{fields, Fields};
 use generator::image::{self, Image};
 use generator::random::Random;
@@ -141,36 +141,38 @@ fn read_then_written() {
     compared(count, "bodies read, then written");
 }
 
+const READERS: [Request; 6] = [
+    request(Which::Either, Mode::Tolerant, None),
+    request(Which::Either, Mode::Strict, None),
+    request(Which::V1Only, Mode::Tolerant, None),
+    request(Which::V1Only, Mode::Strict, None),
+    request(Which::V2Only, Mode::Tolerant, None),
+    request(Which::V2Only, Mode::Strict, None),
+];
+
 /// Whatever is accepted, damaged or not, is marked by its context and written
-/// again to the bytes that were read; a reader of one version also accepts a
-/// frame length that the writer refuses by 20.
+/// again to the bytes that were read.
 #[test]
 fn accepted_then_written() {
     let (mut count, mut old_forms, mut refused) = (0, 0, 0);
     for seed in seeds(60_000) {
-        let case = body_case(seed);
-        for (which, mode) in [Which::Either, Which::V1Only, Which::V2Only]
-            .into_iter()
-            .flat_map(|which| [Mode::Tolerant, Mode::Strict].map(|mode| (which, mode)))
-        {
-            let (message, asked) = (&case.message, request(which, mode, None));
+        let BodyCase { message, start, .. } = body_case(seed);
+        for asked in READERS {
             let (answer, tables) =
-                reads::read_header_body(message, case.start, asked, &[3; 256], &[5; 384]);
+                reads::read_header_body(&message, start, asked, &[3; 256], &[5; 384]);
             count += 1;
             let Ok(body) = answer else { continue };
-            let image = &message[case.start as usize..body.tail as usize];
             let old = message[body.context_start as usize..][..4] == [0, 2, 0, 0];
             assert_eq!(body.numbers.form == Form::Old, old, "seed {seed}");
-            assert!(!old || mode == Mode::Tolerant, "seed {seed}");
+            assert!(!old || asked.mode == Mode::Tolerant, "seed {seed}");
             old_forms += u64::from(old);
-            let draft = draft(message, &body, &tables);
-            let framed = body.numbers.content_type == bafirolen::FRAMED;
-            if framed == (body.numbers.frame_length > 0) {
+            let image = &message[start as usize..body.tail as usize];
+            let draft = draft(&message, &body, &tables);
+            if asked.which == Which::Either || frame_fits(&body) {
                 count += is_written(seed, draft, image);
                 continue;
             }
-            assert_ne!(which, Which::Either, "seed {seed}");
-            let (answer, _) = writes::write_header_body(draft, &vec![seed as u8; image.len()]);
+            let (answer, _) = writes::write_header_body(draft, image);
             assert_eq!(number(&answer), 20, "seed {seed}");
             refused += 1;
             count += 1;
@@ -178,4 +180,9 @@ fn accepted_then_written() {
     }
     assert!(old_forms > 0 && refused > 0);
     compared(count, "bodies accepted, then written");
+}
+
+/// What the writer tests by 20, and no reader of one version does.
+fn frame_fits(body: &Body) -> bool {
+    (body.numbers.content_type == FRAMED) == (body.numbers.frame_length > 0)
 }

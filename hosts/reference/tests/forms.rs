@@ -31,5 +31,5 @@ fn a_pair_in_the_old_form() {
 #[test]
 fn no_pair_in_the_old_form() {
     let rows = forms::no_pair_in_the_old_form(&Reference);
-    report_rows("no pair in the old form", rows, 2 * 11);
+    report_rows("no pair in the old form", rows, 2 * (1 + 11));
 }
