@@ -217,6 +217,8 @@ int main(void)
         struct request r = sound;
         r.numbers.form = old[i];
         refused_by("a pair marked old", r, BAFIROLEN_REFUSED_PAIR_IN_OLD_FORM);
+        r.pairs = many;
+        refused_by("a pair of empty parts marked old", r, BAFIROLEN_REFUSED_PAIR_IN_OLD_FORM);
     }
     faulty_tables();
     faulty_fields();

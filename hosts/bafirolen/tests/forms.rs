@@ -88,6 +88,8 @@ fn a_pair_in_the_old_form() {
     assert_eq!(answer(draft), Refusal::PairInOldForm);
     assert_eq!(answer(draft).number(), 33);
     let pairs = |pairs| draft.with_tables(H, pairs, draft.keys);
+    // A pair of empty parts is a pair.
+    assert_eq!(answer(pairs(&[0; 4])), Refusal::PairInOldForm);
     assert_eq!(answer(pairs(&[26, 4, 32])), Refusal::TableOrPlace);
     assert_eq!(answer(pairs(&[26, 4, 57, 2])), Refusal::TableOrPlace);
     assert_eq!(answer(pairs(&[45, 3, 32, 2])), Refusal::KeyNotUtf8);

@@ -38,7 +38,7 @@ fn forms_of_bodies() {
         + forms::no_pair_in_the_old_form(&Both);
     let marks = OLD_MARKS.len() as u64;
     let again = 2 * (6 * 4 + (4 * 4 + 2 * 2) * 3);
-    let marked = 2 * (3 + 2 * (3 + 3 * marks) + 3 * marks + 1);
+    let marked = 2 * (3 + 2 * (3 + 4 * marks) + 3 * marks + 1);
     let refused = 2 * (2 * (13 + 11) + 1) + 2 * (1 + 11);
     held(rows, again + marked + refused, "rows of forms");
 }

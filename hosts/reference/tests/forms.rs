@@ -18,7 +18,7 @@ fn read_then_written() {
 fn every_mark() {
     let marks = OLD_MARKS.len() as u64;
     let rows = forms::every_mark(&Reference);
-    let wanted = 2 * (3 + 2 * (3 + 3 * marks) + 3 * marks + 1);
+    let wanted = 2 * (3 + 2 * (3 + 4 * marks) + 3 * marks + 1);
     report_rows("marks of a form", rows, wanted);
 }
 

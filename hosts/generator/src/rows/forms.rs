@@ -124,6 +124,14 @@ pub fn every_mark(codec: &impl Codec) -> u64 {
             compared += is_written(codec, empty.lent(0), &today[at]);
             for mark in OLD_MARKS {
                 compared += is_written(codec, empty.lent(mark), &old[at]);
+                // A pair of empty parts is a pair.
+                let pairs = &[0; 4];
+                let lent = Lent {
+                    pairs,
+                    ..empty.lent(mark)
+                };
+                is_refused(codec, lent, 200, 33);
+                compared += 1;
             }
         }
         for mark in OLD_MARKS {
