@@ -69,7 +69,7 @@ extern "C" {
  * The version of these declarations, which grows by one with each change of them. bafirolen_version gives that of the archive:
  * where the two differ, the archive was made for another header file than this.
  */
-#define BAFIROLEN_VERSION 3
+#define BAFIROLEN_VERSION 4
 uint32_t bafirolen_version(void);
 
 /*
@@ -108,6 +108,8 @@ uint64_t bafirolen_header_position(const uint8_t *message, size_t message_len, u
  * has_max: BAFIROLEN_NO_MAX, and `max` is not looked at; any other number: at most `max` keys.
  * pairs, keys: accepted, they begin with four numbers for each pair and six for each key, in the order of the section. The numbers
  * after those are left as they were.
+ * numbers.form says in which form an empty context was read, whichever version and mode were asked for; a strict reader never gives
+ * BAFIROLEN_OLD.
  * Refuses: 1 2 3 4 5 6 7 32 8 21 9 10 11 12 14 15 16 17 18 19 20 22 23.
  * 4 only where one version is asked for; 5, 18 and 19 only of a message of version 1; 20 only where either version is asked for;
  * 21 only where strict.
@@ -162,9 +164,11 @@ BafirolenAuth bafirolen_read_header_auth_tag(const uint8_t *message, size_t mess
 /*
  * WRITING. A writer changes `out`, and nothing else, and that only where it accepts: the bytes from the first on, `length` of
  * them; the bytes after those are left as they were. A table holds places of `text`, in the order that readers fill: what a reader
- * filled can be handed to a writer, its message as the text. (An empty context is always written 00 00, in whichever form it was
- * read; and 20 is tested.) The numbers of a table are all taken: lend just four a pair, or six a key. Zeros at the end of a longer
- * table are places of length 0 and would be written as empty pairs or keys.
+ * filled can be handed to a writer, its message as the text. The numbers of a table are all taken: lend just four a pair, or six a
+ * key. Zeros at the end of a longer table are places of length 0 and would be written as empty pairs or keys.
+ * A body that the reader of either version accepted is so written again, with the numbers that it gave, to exactly the bytes from
+ * its start to its tail: the writer follows the form. (A reader that is asked for one version may give a frame length that the
+ * writer refuses by 20.) A section alone has no form to follow: an empty context is then written 00 00, however it was read.
  */
 
 /*
@@ -194,9 +198,11 @@ BafirolenWritten bafirolen_write_header_auth_tag(uint32_t suite, const uint8_t *
 
 /*
  * Writes a header body. Pairs and keys have their places in one text; message ID and suite data are bytes of their own. A body
- * takes 34 bytes in version 1 and 76 in version 2; where it has a pair, 2 more; 4 for each pair, 6 for each key, and their parts.
- * Refuses: 3 5 6 7 24 26 27 10 11 12 13 16 17 19 25 20 28.
- * 26 and 27 are tested of the pairs before 10, and of the keys before 16.
+ * takes 34 bytes in version 1 and 76 in version 2; where it has a pair or is marked old, 2 more; 4 for each pair, 6 for each key,
+ * and their parts.
+ * numbers.form: BAFIROLEN_TODAY, and an empty context is written 00 00; any other number: old, and it is written 00 02 00 00.
+ * Refuses: 3 5 6 7 24 26 27 10 11 12 13 33 16 17 19 25 20 28.
+ * 26 and 27 are tested of the pairs before 10, and of the keys after 33 and before 16; 33 only where the form is old.
  * Stack: BAFIROLEN_STACK_WRITE.
  */
 BafirolenWritten bafirolen_write_header_body(BafirolenNumbers numbers, const uint8_t *message_id, size_t message_id_len,

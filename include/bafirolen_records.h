@@ -30,6 +30,13 @@ enum BafirolenWhich { BAFIROLEN_EITHER = 0, BAFIROLEN_V1_ONLY = 1, BAFIROLEN_V2_
 enum BafirolenMode { BAFIROLEN_TOLERANT = 0, BAFIROLEN_STRICT = 1 };
 enum BafirolenMax { BAFIROLEN_NO_MAX = 0, BAFIROLEN_AT_MOST = 1 };
 
+/*
+ * The form of a header body, as a number: today an empty context is stored as 00 00, and in the old form it is 00 02 00 00. A body
+ * with a pair has one form, which is today's. A reader gives one of these two; a writer reads a number that is not named here as
+ * BAFIROLEN_OLD.
+ */
+enum BafirolenForm { BAFIROLEN_TODAY = 0, BAFIROLEN_OLD = 1 };
+
 /* A section that was read. 32 bytes. */
 typedef struct BafirolenSection {
     uint64_t number;
@@ -57,7 +64,7 @@ typedef struct BafirolenAuth {
 
 /*
  * The numbers among a header body's fields: what the body reader gives and the body writer takes. Each has 32 bits, also where it
- * is stored in 8 or 16, so that the writer tests the number that it is handed: 257 is no version. 24 bytes.
+ * is stored in 8 or 16, so that the writer tests the number that it is handed: 257 is no version. 28 bytes.
  */
 typedef struct BafirolenNumbers {
     uint32_t version;     /* 1 or 2 */
@@ -68,22 +75,30 @@ typedef struct BafirolenNumbers {
     uint32_t headerIvLength; /* 12 in version 1, 0 in version 2 */
     /* 0 where the content is non-framed, else above 0; a reader that is asked for one version does not test this */
     uint32_t frameLength;
+    uint32_t form; /* BAFIROLEN_TODAY or BAFIROLEN_OLD */
 } BafirolenNumbers;
 
-/* The numbers of a header of version 1, and of version 2. */
+/*
+ * The numbers of a header of version 1, and of version 2, in today's form. For the old one set `form` of what is returned to
+ * BAFIROLEN_OLD.
+ */
 static inline BafirolenNumbers bafirolen_v1_numbers(uint32_t suite, uint32_t contentType, uint32_t frameLength)
 {
-    const BafirolenNumbers numbers = {1, BAFIROLEN_V1_MESSAGE_TYPE, suite, contentType, BAFIROLEN_IV_LEN, frameLength};
+    const BafirolenNumbers numbers = {1, BAFIROLEN_V1_MESSAGE_TYPE, suite, contentType, BAFIROLEN_IV_LEN, frameLength,
+                                      BAFIROLEN_TODAY};
     return numbers;
 }
 
 static inline BafirolenNumbers bafirolen_v2_numbers(uint32_t suite, uint32_t contentType, uint32_t frameLength)
 {
-    const BafirolenNumbers numbers = {2, 0, suite, contentType, 0, frameLength};
+    const BafirolenNumbers numbers = {2, 0, suite, contentType, 0, frameLength, BAFIROLEN_TODAY};
     return numbers;
 }
 
-/* A header body that was read. 96 bytes. suiteDataStart and suiteDataLen are 0 in version 1, which has no suite data. */
+/*
+ * A header body that was read. 104 bytes, of which the four right after `numbers` are none of its fields: compare it field by
+ * field. suiteDataStart and suiteDataLen are 0 in version 1, which has no suite data.
+ */
 typedef struct BafirolenBody {
     uint64_t number;
     uint64_t position;

@@ -41,7 +41,8 @@ enum BafirolenRefusal {
     BAFIROLEN_REFUSED_NOT_FOUND = 29,
     BAFIROLEN_REFUSED_TAG_LENGTH = 30,
     BAFIROLEN_REFUSED_REQUIRED_TABLE_OR_PLACE = 31,
-    BAFIROLEN_REFUSED_PAST_SECTION = 32 /* a count, or the length or the bytes of a key or value */
+    BAFIROLEN_REFUSED_PAST_SECTION = 32, /* a count, or the length or the bytes of a key or value */
+    BAFIROLEN_REFUSED_PAIR_IN_OLD_FORM = 33 /* in writing alone */
 };
 
 /* A refusal in words. Any other number has the words for unknown ones. */
@@ -81,6 +82,7 @@ static inline const char *bafirolen_refusal_text(uint64_t number)
         "tag not 16 bytes",
         "required table of odd length, or a place outside its text",
         "part of a context section that would end past the section",
+        "a pair in a body marked as of the old form",
     };
     return number < sizeof texts / sizeof *texts ? texts[number] : "unknown refusal";
 }

@@ -14,6 +14,7 @@ struct shape {
     uint32_t version, pairs, keys;
     enum order order;
     enum fault fault;
+    enum BafirolenForm form; /* old only where there is no pair */
 };
 
 #define MOST_PAIRS 10900
@@ -56,6 +57,10 @@ static inline void put_context(struct shape s)
     static const uint8_t value[] = {'v', 0xFF};
     uint32_t i, k;
     body.context = body.length;
+    if (s.form == BAFIROLEN_OLD) {
+        put("\0\2\0\0", 4);
+        return;
+    }
     put_number(0, 2);
     if (s.pairs == 0) {
         return;
@@ -110,8 +115,10 @@ static inline void build(struct shape s)
 /* the numbers of such a body */
 static inline BafirolenNumbers numbers_of(struct shape s)
 {
-    static const BafirolenNumbers numbers[2] = {{1, 0x80, 0x0178, 2, 12, 4096}, {2, 0, 0x0578, 2, 0, 4096}};
-    return numbers[s.version - 1];
+    BafirolenNumbers numbers = s.version == 1 ? bafirolen_v1_numbers(0x0178, BAFIROLEN_FRAMED, 4096)
+                                              : bafirolen_v2_numbers(0x0578, BAFIROLEN_FRAMED, 4096);
+    numbers.form = s.form;
+    return numbers;
 }
 
 #endif

@@ -41,12 +41,14 @@ static void read_body(void)
 {
     lent->answer.body = bafirolen_read_header_body(body.bytes, body.length, 0, BAFIROLEN_EITHER, BAFIROLEN_TOLERANT,
                                                    BAFIROLEN_NO_MAX, 0, lent->pairs, pairs_len, lent->keys, keys_len);
+    clear_behind_numbers(&lent->answer.body);
 }
 
+/* strict, where that accepts */
 static void read_context(void)
 {
-    lent->answer.section =
-        bafirolen_read_aad_section(body.bytes, body.length, body.context, BAFIROLEN_STRICT, lent->pairs, pairs_len);
+    const uint32_t mode = shape.form == BAFIROLEN_OLD ? BAFIROLEN_TOLERANT : BAFIROLEN_STRICT;
+    lent->answer.section = bafirolen_read_aad_section(body.bytes, body.length, body.context, mode, lent->pairs, pairs_len);
 }
 
 static void read_keys(void)
@@ -65,11 +67,10 @@ static void copy(void)
     lent->answer.written = bafirolen_copy_value(body.bytes, body.length, body.context, find_key, 2, lent->out, out_len);
 }
 
-/* the four bytes behind the tag are none of the record's fields, and nothing is said of them */
 static void read_record(void)
 {
     lent->answer.auth = bafirolen_read_header_auth_tag(body.bytes, body.length, 4, numbers_of(shape).suite);
-    memset(lent->answer.auth.tag + 16, 0, sizeof(BafirolenAuth) - offsetof(BafirolenAuth, tag) - 16);
+    clear_behind_tag(&lent->answer.auth);
 }
 
 static void write_record(void)

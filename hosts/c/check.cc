@@ -1,7 +1,7 @@
 /*
  * A host in C++: bafirolen.h is included twice, what is empty is lent as an empty vector has it; header H is read, its pairs and
- * keys are gone through, it is written again, and what is authenticated of its context is written alone. Writes `compared N
- * cases`; a difference is written to standard error, and the exit status is 1.
+ * keys are gone through, it is written again, as is one with an empty context in the old form, and what is authenticated of its
+ * context is written alone. Writes `compared N cases`; a difference is written to standard error, and the exit status is 1.
  *
  *     rt staticlib bafirolen_c
  *     g++ -std=c++11 -O2 -Wall -Wextra -Wpedantic -Iinclude hosts/c/check.cc target/staticlib/libbafirolen_c.a -o target/check
@@ -35,9 +35,9 @@ const Bytes H = {0x01, 0x80, 0x01, 0x78, 0x00, 0x01, 0x02, 0x03, 0x04, 0x05, 0x0
                  0x00, 0x02, 0x63, 0x79, 0x00, 0x01, 0x00, 0x02, 0x70, 0x31, 0x00, 0x01, 0x61, 0x00, 0x03,
                  0xAA, 0xBB, 0xCC, 0x02, 0x00, 0x00, 0x00, 0x00, 0x0C, 0x00, 0x00, 0x10, 0x00};
 
-BafirolenBody read(const Bytes &message, Table &pairs, Table &keys)
+BafirolenBody read(const Bytes &message, Table &pairs, Table &keys, BafirolenMode mode = BAFIROLEN_STRICT)
 {
-    return bafirolen_read_header_body(message.data(), message.size(), 0, BAFIROLEN_EITHER, BAFIROLEN_STRICT, BAFIROLEN_NO_MAX, 0,
+    return bafirolen_read_header_body(message.data(), message.size(), 0, BAFIROLEN_EITHER, mode, BAFIROLEN_NO_MAX, 0,
                                       pairs.data(), pairs.size(), keys.data(), keys.size());
 }
 
@@ -74,6 +74,27 @@ void read_and_write_again()
                                     pairs.size(), keys.data(), keys.size(), out.data(), out.size());
     same("what was written", w.number == 0 && w.position == 0 && w.length == H.size(), true);
     same("its bytes", out, H);
+}
+
+/* H without its pair, in the old form: the tables are exact, and the one of pairs is empty */
+void old_form_again()
+{
+    Bytes old(H.begin(), H.begin() + 20), out(48, 0xEE);
+    const Bytes empty = {0, 2, 0, 0}, none;
+    old.insert(old.end(), empty.begin(), empty.end());
+    old.insert(old.end(), H.begin() + 34, H.end());
+    Table pairs, keys(BAFIROLEN_NUMBERS_PER_KEY);
+    const BafirolenBody refused = read(old, pairs, keys);
+    same("the old form, strict", refused.number, uint64_t(BAFIROLEN_REFUSED_OLD_EMPTY_CONTEXT));
+    same("no form", refused.numbers.form, uint32_t(BAFIROLEN_TODAY));
+    const BafirolenBody b = read(old, pairs, keys, BAFIROLEN_TOLERANT);
+    same("the old form", b.number == 0 && b.tail == 48 && b.pairCount == 0 && b.keyCount == 1, true);
+    same("its mark", b.numbers.form, uint32_t(BAFIROLEN_OLD));
+    const BafirolenWritten w =
+        bafirolen_write_header_body(b.numbers, &old[b.messageIdStart], b.messageIdLen, none.data(), none.size(), old.data(),
+                                    old.size(), pairs.data(), pairs.size(), keys.data(), keys.size(), out.data(), out.size());
+    same("the old form written", w.number == 0 && w.position == 0 && w.length == 48, true);
+    same("its bytes", out, old);
 }
 
 /* what an empty vector gives for a pointer may be null */
@@ -117,8 +138,9 @@ int main()
 {
     same("the version of the declarations", bafirolen_version(), uint32_t(BAFIROLEN_VERSION));
     same("the text of a refusal", std::string(bafirolen_refusal_text(BAFIROLEN_REFUSED_NOT_FOUND)), "no pair has the key");
-    same("the text of no refusal", std::string(bafirolen_refusal_text(33)), "unknown refusal");
+    same("the text of no refusal", std::string(bafirolen_refusal_text(34)), "unknown refusal");
     read_and_write_again();
+    old_form_again();
     only_authenticated();
     empty_vectors();
     std::cout << "compared " << cases << " cases\n" << std::flush;

@@ -24,7 +24,7 @@ static void tables_are(const char *what, BafirolenBody b)
 static void read_as(const char *what, const uint8_t *m, size_t n, uint64_t start, const uint64_t q[6], uint64_t number,
                     uint64_t position)
 {
-    static const uint64_t none[15];
+    static const uint64_t none[BODY_FIELDS];
     BafirolenBody b;
     fresh();
     b = bafirolen_read_header_body(m, n, start, (uint32_t)q[0], (uint32_t)q[1], (uint32_t)q[2], q[3], pairs, q[4], keys, q[5]);
@@ -32,6 +32,7 @@ static void read_as(const char *what, const uint8_t *m, size_t n, uint64_t start
     same(what, b.position, position);
     if (number == BAFIROLEN_ACCEPTED) {
         same(what, b.tail, n);
+        same(what, b.numbers.form, form_of(m + start));
     } else {
         b.number = b.position = 0;
         body_is(what, b, none);
@@ -41,7 +42,7 @@ static void read_as(const char *what, const uint8_t *m, size_t n, uint64_t start
 
 static void read_bodies(void)
 {
-    static const uint64_t want[15] = {0, 0, 1, 0x80, 0x0178, 2, 12, 4096, 4, 16, 1, 1, 0, 0, 58};
+    static const uint64_t want[BODY_FIELDS] = {0, 0, 1, 0x80, 0x0178, 2, 12, 4096, BAFIROLEN_TODAY, 4, 16, 1, 1, 0, 0, 58};
     static const uint64_t plain[6] = {0, 0, 0, 0, NUMBERS, NUMBERS};
     static const uint64_t few_pairs[6] = {0, 0, 0, 0, 3, 6}, few_keys[6] = {0, 0, 0, 0, 4, 5};
     static const uint64_t one[6] = {1, 0, 0, 0, 4, 6}, two[6] = {2, 0, 0, 0, 4, 6}, other[6] = {255, 0, 0, 0, 4, 6};
@@ -50,7 +51,7 @@ static void read_bodies(void)
         uint64_t before;
         BafirolenBody body;
         uint64_t after;
-    } guarded = {KEPT, {0, 0, {0, 0, 0, 0, 0, 0}, 0, 0, 0, 0, 0, 0, 0}, KEPT};
+    } guarded = {KEPT, {0, 0, {0, 0, 0, 0, 0, 0, 0}, 0, 0, 0, 0, 0, 0, 0}, KEPT};
     fresh();
     guarded.body = bafirolen_read_header_body(H, 58, 0, 0, 0, 0, 0, pairs, NUMBERS, keys, NUMBERS);
     body_is("H", guarded.body, want);

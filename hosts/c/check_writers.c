@@ -1,6 +1,7 @@
 /*
  * A host in C: calls every exported operation that writes but one, and the reader of authentication records beside its writer; as
- * check_readers.c does for what reads. check_only_authenticated.c has the one that reads a message and writes.
+ * check_readers.c does for what reads. check_only_authenticated.c has the one that reads a message and writes, and check_forms.c
+ * bodies of both forms.
  */
 #include "compare.h"
 
@@ -39,23 +40,23 @@ static void write_with(const char *what, BafirolenNumbers n, size_t id, size_t r
 
 static void write_bodies(void)
 {
-    static const BafirolenNumbers n = {1, 0x80, 0x0178, 2, 12, 4096};
-    static const BafirolenNumbers wide = {1, 0x80, 0x0378, 2, 12, 0xFEDCBA98u};
+    static const BafirolenNumbers n = {1, 0x80, 0x0178, 2, 12, 4096, 0};
+    static const BafirolenNumbers wide = {1, 0x80, 0x0378, 2, 12, 0xFEDCBA98u, 0};
     /* H's numbers, with one of them wrong; some of those agree with the right one in their lowest bytes */
     static const struct {
         const char *what;
         BafirolenNumbers numbers;
         uint64_t number;
-    } refusals[] = {{"version", {3, 0x80, 0x0178, 2, 12, 4096}, BAFIROLEN_REFUSED_UNKNOWN_VERSION},
-                    {"version 257", {257, 0x80, 0x0178, 2, 12, 4096}, BAFIROLEN_REFUSED_UNKNOWN_VERSION},
-                    {"type", {1, 0x81, 0x0178, 2, 12, 4096}, BAFIROLEN_REFUSED_MESSAGE_TYPE},
-                    {"suite", {1, 0x80, 0x7801, 2, 12, 4096}, BAFIROLEN_REFUSED_UNKNOWN_SUITE},
-                    {"suite 10178", {1, 0x80, 0x10178, 2, 12, 4096}, BAFIROLEN_REFUSED_UNKNOWN_SUITE},
-                    {"suite of version 2", {1, 0x80, 0x0478, 2, 12, 4096}, BAFIROLEN_REFUSED_SUITE_OF_OTHER_VERSION},
-                    {"content type", {1, 0x80, 0x0178, 3, 12, 4096}, BAFIROLEN_REFUSED_CONTENT_TYPE},
-                    {"IV length", {1, 0x80, 0x0178, 2, 13, 4096}, BAFIROLEN_REFUSED_IV_LENGTH},
-                    {"IV length 10C", {1, 0x80, 0x0178, 2, 0x10C, 4096}, BAFIROLEN_REFUSED_IV_LENGTH},
-                    {"frame length", {1, 0x80, 0x0178, 2, 12, 0}, BAFIROLEN_REFUSED_FRAME_LENGTH}};
+    } refusals[] = {{"version", {3, 0x80, 0x0178, 2, 12, 4096, 0}, BAFIROLEN_REFUSED_UNKNOWN_VERSION},
+                    {"version 257", {257, 0x80, 0x0178, 2, 12, 4096, 0}, BAFIROLEN_REFUSED_UNKNOWN_VERSION},
+                    {"type", {1, 0x81, 0x0178, 2, 12, 4096, 0}, BAFIROLEN_REFUSED_MESSAGE_TYPE},
+                    {"suite", {1, 0x80, 0x7801, 2, 12, 4096, 0}, BAFIROLEN_REFUSED_UNKNOWN_SUITE},
+                    {"suite 10178", {1, 0x80, 0x10178, 2, 12, 4096, 0}, BAFIROLEN_REFUSED_UNKNOWN_SUITE},
+                    {"suite of version 2", {1, 0x80, 0x0478, 2, 12, 4096, 0}, BAFIROLEN_REFUSED_SUITE_OF_OTHER_VERSION},
+                    {"content type", {1, 0x80, 0x0178, 3, 12, 4096, 0}, BAFIROLEN_REFUSED_CONTENT_TYPE},
+                    {"IV length", {1, 0x80, 0x0178, 2, 13, 4096, 0}, BAFIROLEN_REFUSED_IV_LENGTH},
+                    {"IV length 10C", {1, 0x80, 0x0178, 2, 0x10C, 4096, 0}, BAFIROLEN_REFUSED_IV_LENGTH},
+                    {"frame length", {1, 0x80, 0x0178, 2, 12, 0, 0}, BAFIROLEN_REFUSED_FRAME_LENGTH}};
     size_t i;
     write_with("H written", n, 16, 58, 0);
     output_is("H written", H, 58);
@@ -77,14 +78,14 @@ static void refuse_version_2(void)
         BafirolenNumbers numbers;
         size_t id, data;
         uint64_t number;
-    } rows[] = {{"a type in version 2", {2, 0x80, 0x0578, 1, 0, 0}, 32, 32, BAFIROLEN_REFUSED_MESSAGE_TYPE},
-                {"a type of 256 in version 2", {2, 0x100, 0x0578, 1, 0, 0}, 32, 32, BAFIROLEN_REFUSED_MESSAGE_TYPE},
-                {"an ID of 16 in version 2", {2, 0, 0x0578, 1, 0, 0}, 16, 32, BAFIROLEN_REFUSED_ID_LENGTH},
-                {"an IV length in version 2", {2, 0, 0x0578, 1, 12, 0}, 32, 32, BAFIROLEN_REFUSED_IV_LENGTH},
-                {"an IV length of 256 in version 2", {2, 0, 0x0578, 1, 0x100, 0}, 32, 32, BAFIROLEN_REFUSED_IV_LENGTH},
-                {"suite data of 31", {2, 0, 0x0578, 1, 0, 0}, 32, 31, BAFIROLEN_REFUSED_SUITE_DATA_LENGTH},
-                {"no suite data", {2, 0, 0x0578, 1, 0, 0}, 32, 0, BAFIROLEN_REFUSED_SUITE_DATA_LENGTH},
-                {"a frame length, non-framed", {2, 0, 0x0578, 1, 0, 1}, 32, 32, BAFIROLEN_REFUSED_FRAME_LENGTH}};
+    } rows[] = {{"a type in version 2", {2, 0x80, 0x0578, 1, 0, 0, 0}, 32, 32, BAFIROLEN_REFUSED_MESSAGE_TYPE},
+                {"a type of 256 in version 2", {2, 0x100, 0x0578, 1, 0, 0, 0}, 32, 32, BAFIROLEN_REFUSED_MESSAGE_TYPE},
+                {"an ID of 16 in version 2", {2, 0, 0x0578, 1, 0, 0, 0}, 16, 32, BAFIROLEN_REFUSED_ID_LENGTH},
+                {"an IV length in version 2", {2, 0, 0x0578, 1, 12, 0, 0}, 32, 32, BAFIROLEN_REFUSED_IV_LENGTH},
+                {"an IV length of 256 in version 2", {2, 0, 0x0578, 1, 0x100, 0, 0}, 32, 32, BAFIROLEN_REFUSED_IV_LENGTH},
+                {"suite data of 31", {2, 0, 0x0578, 1, 0, 0, 0}, 32, 31, BAFIROLEN_REFUSED_SUITE_DATA_LENGTH},
+                {"no suite data", {2, 0, 0x0578, 1, 0, 0, 0}, 32, 0, BAFIROLEN_REFUSED_SUITE_DATA_LENGTH},
+                {"a frame length, non-framed", {2, 0, 0x0578, 1, 0, 1, 0}, 32, 32, BAFIROLEN_REFUSED_FRAME_LENGTH}};
     BafirolenWritten w;
     size_t i;
     for (i = 0; i < COUNT(rows); i++) {
@@ -99,8 +100,8 @@ static void refuse_version_2(void)
 /* an ID and suite data of 32 bytes, no key */
 static void write_version_2(void)
 {
-    static const BafirolenNumbers n = {2, 0, 0x0578, 1, 0, 0};
-    static const uint64_t want[15] = {0, 0, 2, 0, 0x0578, 1, 0, 0, 3, 32, 1, 0, 56, 32, 88};
+    static const BafirolenNumbers n = {2, 0, 0x0578, 1, 0, 0, 0};
+    static const uint64_t want[BODY_FIELDS] = {0, 0, 2, 0, 0x0578, 1, 0, 0, BAFIROLEN_TODAY, 3, 32, 1, 0, 56, 32, 88};
     static const uint32_t V2_pairs[4] = {41, 4, 47, 2};
     BafirolenWritten w;
     BafirolenBody b;
@@ -121,7 +122,7 @@ static void write_version_2(void)
 
 static void numbers_made(void)
 {
-    static const BafirolenNumbers one = {1, 0x80, 0x0178, 2, 12, 4096}, two = {2, 0, 0x0578, 1, 0, 7};
+    static const BafirolenNumbers one = {1, 0x80, 0x0178, 2, 12, 4096, 0}, two = {2, 0, 0x0578, 1, 0, 7, 0};
     const BafirolenNumbers made_one = bafirolen_v1_numbers(0x0178, BAFIROLEN_FRAMED, 4096);
     const BafirolenNumbers made_two = bafirolen_v2_numbers(0x0578, BAFIROLEN_NON_FRAMED, 7);
     same_bytes("numbers of version 1", &made_one, &one, sizeof one);

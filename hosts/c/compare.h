@@ -15,7 +15,7 @@
 
 /* how the archive lays its structs out, which the values below go round through */
 typedef char sizes[(sizeof(BafirolenSection) == 32 && sizeof(BafirolenPlace) == 32 && sizeof(BafirolenAuth) == 56
-                    && sizeof(BafirolenBody) == 96 && sizeof(BafirolenWritten) == 24 && sizeof(BafirolenNumbers) == 24)
+                    && sizeof(BafirolenBody) == 104 && sizeof(BafirolenWritten) == 24 && sizeof(BafirolenNumbers) == 28)
                        ? 1
                        : -1];
 
@@ -30,9 +30,9 @@ union answered {
 };
 typedef char offsets[(offsetof(BafirolenWritten, position) == 8 && offsetof(BafirolenWritten, length) == 16
                       && offsetof(BafirolenAuth, iv) == 24 && offsetof(BafirolenAuth, tag) == 36
-                      && offsetof(BafirolenBody, numbers) == 16 && offsetof(BafirolenBody, messageIdStart) == 40
-                      && offsetof(BafirolenBody, tail) == 88
-                      && offsetof(BafirolenNumbers, suite) == 8 && offsetof(BafirolenNumbers, frameLength) == 20)
+                      && offsetof(BafirolenBody, numbers) == 16 && offsetof(BafirolenBody, messageIdStart) == 48
+                      && offsetof(BafirolenBody, tail) == 96 && offsetof(BafirolenNumbers, suite) == 8
+                      && offsetof(BafirolenNumbers, frameLength) == 20 && offsetof(BafirolenNumbers, form) == 24)
                          ? 1
                          : -1];
 
@@ -105,16 +105,57 @@ static inline void written_is(const char *what, BafirolenWritten w, uint64_t num
     written_at(what, w, number, 0, length);
 }
 
+#define BODY_FIELDS 16
+
 static inline void body_is(const char *what, BafirolenBody b, const uint64_t *want)
 {
     const BafirolenNumbers n = b.numbers;
-    const uint64_t got[15] = {b.number, b.position, n.version, n.messageType, n.suite, n.contentType, n.headerIvLength,
-                              n.frameLength, b.messageIdStart, b.messageIdLen, b.pairCount, b.keyCount, b.suiteDataStart,
-                              b.suiteDataLen, b.tail};
+    const uint64_t got[BODY_FIELDS] = {b.number, b.position, n.version, n.messageType, n.suite, n.contentType,
+                                       n.headerIvLength, n.frameLength, n.form, b.messageIdStart, b.messageIdLen, b.pairCount,
+                                       b.keyCount, b.suiteDataStart, b.suiteDataLen, b.tail};
     size_t i;
-    for (i = 0; i < 15; i++) {
+    for (i = 0; i < BODY_FIELDS; i++) {
         same(what, got[i], want[i]);
     }
+}
+
+/* the four bytes behind a body's numbers, and behind a record's tag, are none of their fields, and nothing is said of them: set to
+ * 0, so that what was answered can be compared byte by byte */
+static inline void clear_behind_numbers(BafirolenBody *b)
+{
+    const size_t behind = offsetof(BafirolenBody, numbers) + sizeof b->numbers;
+    memset((uint8_t *)b + behind, 0, offsetof(BafirolenBody, messageIdStart) - behind);
+}
+
+static inline void clear_behind_tag(BafirolenAuth *a)
+{
+    const size_t behind = offsetof(BafirolenAuth, tag) + sizeof a->tag;
+    memset((uint8_t *)a + behind, 0, sizeof *a - behind);
+}
+
+/* what a reader marks a header by that it accepts: whether its context section is 00 02 00 00 */
+static inline uint32_t form_of(const uint8_t *header)
+{
+    return memcmp(header + (header[0] == 1 ? 20 : 35), "\0\2\0\0", 4) == 0 ? BAFIROLEN_OLD : BAFIROLEN_TODAY;
+}
+
+static inline size_t append(uint8_t *m, size_t at, const void *bytes, size_t n)
+{
+    memcpy(m + at, bytes, n);
+    return at + n;
+}
+
+/* a header of a version and a form without pairs and keys: its length, which is 34 and 76 today, and 2 more in the old form */
+static inline size_t bare_header(uint8_t *m, uint32_t version, uint32_t form)
+{
+    size_t n = append(m, 0, version == 1 ? "\x01\x80\x01\x78" : "\x02\x05\x78", version == 1 ? 4 : 3);
+    n = append(m, n, H + 4, version == 1 ? 16 : 32);
+    n = append(m, n, form == BAFIROLEN_TODAY ? "\0\0" : "\0\2\0\0", form == BAFIROLEN_TODAY ? 2 : 4);
+    n = append(m, n, "\0\0", 2);
+    /* the content type, in version 1 also the reserved bytes and the IV length; the frame length; in version 2 suite data */
+    n = append(m, n, H + 48, version == 1 ? 6 : 1);
+    n = append(m, n, H + 54, 4);
+    return append(m, n, H + 20, version == 1 ? 0 : 32);
 }
 
 /* how many cases were compared; the exit status, which is 1 where none was */

@@ -74,6 +74,8 @@ static void read_body(const uint8_t *m, size_t n, uint32_t which, uint32_t mode,
     k = lend(keys, nk * sizeof *k);
     exact = bafirolen_read_header_body(lend_const(m, n), n, 0, which, mode, BAFIROLEN_NO_MAX, 0, p, np, k, nk);
     roomy = bafirolen_read_header_body(m, n, 0, which, mode, BAFIROLEN_NO_MAX, 0, pairs, np, keys, nk);
+    clear_behind_numbers(&exact);
+    clear_behind_numbers(&roomy);
     same_bytes("a body", &exact, &roomy, sizeof exact);
     same_bytes("its pairs", p, pairs, np * sizeof *p);
     same_bytes("its keys", k, keys, nk * sizeof *k);
@@ -171,33 +173,6 @@ static void read_past_section(const uint8_t *header, size_t n, size_t section, s
     }
 }
 
-/* a header that was read, written again into exactly its length and into one byte less */
-static void write_again(const uint8_t *m, size_t n)
-{
-    BafirolenBody b;
-    BafirolenWritten w;
-    const uint8_t *text, *id, *data;
-    const uint32_t *p, *k;
-    size_t room;
-    fresh();
-    b = bafirolen_read_header_body(m, n, 0, BAFIROLEN_EITHER, BAFIROLEN_STRICT, BAFIROLEN_NO_MAX, 0, pairs, NUMBERS, keys,
-                                   NUMBERS);
-    same("a header", b.number, BAFIROLEN_ACCEPTED);
-    for (room = 0; room <= n; room++) {
-        uint8_t *o = lend(fresh_bytes, room);
-        text = lend_const(m, n);
-        id = lend_const(m + b.messageIdStart, b.messageIdLen);
-        data = lend_const(m + b.suiteDataStart, b.suiteDataLen);
-        p = lend_const(pairs, 16 * b.pairCount);
-        k = lend_const(keys, 24 * b.keyCount);
-        w = bafirolen_write_header_body(b.numbers, id, b.messageIdLen, data, b.suiteDataLen, text, n, p, 4 * b.pairCount, k,
-                                     6 * b.keyCount, o, room);
-        written_is("a header", w, room < n ? BAFIROLEN_REFUSED_OUTPUT_TOO_SHORT : 0, room < n ? 0 : n);
-        same_bytes("a header", o, room < n ? fresh_bytes : m, room);
-        let_go();
-    }
-}
-
 /* an output of `room` bytes holds these n, or none where they have no room, and keeps the others; it is then filled anew */
 static void holds(const char *what, BafirolenWritten w, uint8_t *o, size_t room, const void *bytes, size_t n)
 {
@@ -206,6 +181,42 @@ static void holds(const char *what, BafirolenWritten w, uint8_t *o, size_t room,
     same_bytes(what, o, bytes, front);
     same_bytes(what, o + front, fresh_bytes + front, room - front);
     memset(o, KEPT, room);
+}
+
+/* a header that was read, written again at every room up to a few bytes more than its length */
+static void write_again(const uint8_t *m, size_t n)
+{
+    BafirolenBody b;
+    BafirolenWritten w;
+    const uint8_t *text, *id, *data;
+    const uint32_t *p, *k;
+    size_t room;
+    fresh();
+    b = bafirolen_read_header_body(m, n, 0, BAFIROLEN_EITHER, BAFIROLEN_TOLERANT, BAFIROLEN_NO_MAX, 0, pairs, NUMBERS, keys,
+                                   NUMBERS);
+    same("a header", b.number, BAFIROLEN_ACCEPTED);
+    same("its form", b.numbers.form, form_of(m));
+    for (room = 0; room <= n + 3; room++) {
+        uint8_t *o = lend(fresh_bytes, room);
+        text = lend_const(m, n);
+        id = lend_const(m + b.messageIdStart, b.messageIdLen);
+        data = lend_const(m + b.suiteDataStart, b.suiteDataLen);
+        p = lend_const(pairs, 16 * b.pairCount);
+        k = lend_const(keys, 24 * b.keyCount);
+        w = bafirolen_write_header_body(b.numbers, id, b.messageIdLen, data, b.suiteDataLen, text, n, p, 4 * b.pairCount, k,
+                                     6 * b.keyCount, o, room);
+        holds("a header", w, o, room, m, n);
+        let_go();
+    }
+}
+
+/* the same header with an empty context in its old form: its length */
+static size_t in_old_form(const uint8_t *header, size_t n, size_t section, uint8_t *m)
+{
+    const size_t behind = section + 2 + header[section + 1];
+    size_t length = append(m, 0, header, section);
+    length = append(m, length, "\0\2\0\0", 4);
+    return append(m, length, header + behind, n - behind);
 }
 
 /* a context section, what is authenticated of it, a key section, a record and a listing at every room up to their lengths */
@@ -241,12 +252,18 @@ static void write_parts(void)
 
 int main(void)
 {
+    uint8_t old[sizeof V2];
+    size_t length;
     read_cuts(H, sizeof H, 1, 1);
     read_cuts(V2, sizeof V2, 2, 2);
     read_past_section(H, sizeof H, 20, 1, 1);
     read_past_section(V2, sizeof V2, 35, 2, 2);
     write_again(H, sizeof H);
     write_again(V2, sizeof V2);
+    length = in_old_form(H, sizeof H, 20, old);
+    read_cuts(old, length, 1, 1);
+    write_again(old, length);
+    write_again(old, in_old_form(V2, sizeof V2, 35, old));
     write_parts();
     return compared();
 }

@@ -45,6 +45,18 @@ static inline int file_failed(const char *program, const char *path)
     return 1;
 }
 
+/* Writes bytes to a file, which then has nothing else: 1, or 0 where errno says why. */
+static inline int filed(const char *path, const uint8_t *bytes, size_t length)
+{
+    FILE *f = fopen(path, "wb");
+    int whole;
+    if (f == NULL) {
+        return 0;
+    }
+    whole = fwrite(bytes, 1, length, f) == length;
+    return fclose(f) == 0 && whole;
+}
+
 /* Everything printed has left: 0, or 1 where something has not. What a buffer holds fails no sooner than when it is closed. */
 static inline int printed(const char *program)
 {

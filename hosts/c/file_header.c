@@ -43,17 +43,6 @@ static int reads_back(const uint8_t *header, size_t length)
            && b.pairCount == 1 && b.keyCount == 1 && same_parts(header, p, pairs, 4) && same_parts(header, k, keys, 6);
 }
 
-static int file(const char *path, const uint8_t *header, size_t length)
-{
-    FILE *f = fopen(path, "wb");
-    int whole;
-    if (f == NULL) {
-        return 0;
-    }
-    whole = fwrite(header, 1, length, f) == length;
-    return fclose(f) == 0 && whole;
-}
-
 int main(int argc, char **argv)
 {
     uint8_t out[1024];
@@ -73,7 +62,7 @@ int main(int argc, char **argv)
         fprintf(stderr, "%s: what was read back is not what was written\n", program);
         return 1;
     }
-    if (!file(argv[1], out, (size_t)w.length)) {
+    if (!filed(argv[1], out, (size_t)w.length)) {
         return file_failed(program, argv[1]);
     }
     printf("filed %" PRIu64 " bytes\n", w.length);

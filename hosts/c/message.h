@@ -36,9 +36,9 @@ static inline uint8_t *message_of(const char *path, size_t *length)
     return bytes;
 }
 
-/* Does `use` with the bytes of a file and the key, if one is wanted: the status for main to return. */
+/* Does `use` with the bytes of a file and a second argument, if one is wanted: the status for main to return. */
 static inline int with_message(const char *program, const char *path, int (*use)(const uint8_t *, size_t, const char *),
-                               const char *key)
+                               const char *argument)
 {
     size_t length;
     int status;
@@ -46,7 +46,7 @@ static inline int with_message(const char *program, const char *path, int (*use)
     if (message == NULL) {
         return file_failed(program, path);
     }
-    status = use(message, length, key);
+    status = use(message, length, argument);
     free(message);
     return status;
 }

@@ -12,9 +12,12 @@
 
 #include <stdlib.h>
 
-/* a header without pairs and keys; and one of version 2 whose pair and key have empty parts only, its ID and suite data all 00 */
+/* a header without pairs and keys, in today's form and in the old one; and one of version 2 whose pair and key have empty parts
+ * only, its ID and suite data all 00 */
 static const uint8_t BARE[34] = {0x01, 0x80, 0x01, 0x78, 0, 1, 2, 3, 4, 5, 6, 7, 8, 9, 10, 11, 12, 13, 14, 15,
                                  0, 0, 0, 0, 0x02, 0, 0, 0, 0, 0x0C, 0, 0, 0x10, 0};
+static const uint8_t OLD[36] = {0x01, 0x80, 0x01, 0x78, 0, 1, 2, 3, 4, 5, 6, 7, 8, 9, 10, 11, 12, 13, 14, 15,
+                                0, 2, 0, 0, 0, 0, 0x02, 0, 0, 0, 0, 0x0C, 0, 0, 0x10, 0};
 static const uint8_t HOLLOW[88] = {[0] = 0x02, [1] = 0x05, [2] = 0x78, [36] = 6, [38] = 1, [44] = 1, [51] = 0x02, [54] = 0x10};
 static const uint32_t HOLLOW_pairs[4] = {41, 0, 43, 0}, HOLLOW_keys[6] = {47, 0, 49, 0, 51, 0};
 
@@ -27,9 +30,10 @@ static const struct header {
     size_t id, id_length, data, data_length, pair_numbers, key_numbers;
     const uint32_t *pair_table, *key_table;
     const char *key;
-} headers[] = {{H, 58, 20, 34, {1, 0x80, 0x0178, 2, 12, 4096}, 4, 16, 0, 0, 4, 6, H_pairs, H_keys, "lang"},
-               {BARE, 34, 20, 22, {1, 0x80, 0x0178, 2, 12, 4096}, 4, 16, 0, 0, 0, 0, H_pairs, H_keys, "lang"},
-               {HOLLOW, 88, 35, 43, {2, 0, 0x0578, 2, 0, 4096}, 3, 32, 56, 32, 4, 6, HOLLOW_pairs, HOLLOW_keys, ""}};
+} headers[] = {{H, 58, 20, 34, {1, 0x80, 0x0178, 2, 12, 4096, 0}, 4, 16, 0, 0, 4, 6, H_pairs, H_keys, "lang"},
+               {BARE, 34, 20, 22, {1, 0x80, 0x0178, 2, 12, 4096, 0}, 4, 16, 0, 0, 0, 0, H_pairs, H_keys, "lang"},
+               {OLD, 36, 20, 24, {1, 0x80, 0x0178, 2, 12, 4096, 1}, 4, 16, 0, 0, 0, 0, H_pairs, H_keys, "lang"},
+               {HOLLOW, 88, 35, 43, {2, 0, 0x0578, 2, 0, 4096, 0}, 3, 32, 56, 32, 4, 6, HOLLOW_pairs, HOLLOW_keys, ""}};
 static const struct header *h;
 
 /* which of a call's lent parts are empty, in their order, and the pointer that those have */
@@ -62,8 +66,9 @@ static void listing(void)
 
 static void read_body(void)
 {
-    answer.record.body = bafirolen_read_header_body(MESSAGE, 0, BAFIROLEN_EITHER, BAFIROLEN_STRICT, BAFIROLEN_NO_MAX, 0,
+    answer.record.body = bafirolen_read_header_body(MESSAGE, 0, BAFIROLEN_EITHER, BAFIROLEN_TOLERANT, BAFIROLEN_NO_MAX, 0,
                                                     LENT(1, pairs, NUMBERS), LENT(2, keys, NUMBERS));
+    clear_behind_numbers(&answer.record.body);
 }
 
 static void read_context(void)
@@ -77,11 +82,10 @@ static void read_keys(void)
         bafirolen_read_encrypted_data_keys_section(MESSAGE, h->keys, BAFIROLEN_NO_MAX, 0, LENT(1, keys, NUMBERS));
 }
 
-/* the four bytes behind the tag are none of the record's fields, and nothing is said of them */
 static void read_record(void)
 {
     answer.record.auth = bafirolen_read_header_auth_tag(MESSAGE, 0, h->numbers.suite);
-    memset(answer.record.auth.tag + 16, 0, sizeof(BafirolenAuth) - offsetof(BafirolenAuth, tag) - 16);
+    clear_behind_tag(&answer.record.auth);
 }
 
 static void find(void)
@@ -178,10 +182,10 @@ static void by_null_and_by_another(const struct export *e, void *behind)
 /* what a host sees where null is what it has: an empty message, no table, an empty key, no room */
 static void readers(void)
 {
-    static const uint64_t cut[15] = {BAFIROLEN_REFUSED_SHORTAGE, 1};
-    static const uint64_t bare[15] = {0, 0, 1, 0x80, 0x0178, 2, 12, 4096, 4, 16, 0, 0, 0, 0, 34};
-    static const uint64_t few_pairs[15] = {BAFIROLEN_REFUSED_PAIR_TABLE_TOO_SHORT};
-    static const uint64_t few_keys[15] = {BAFIROLEN_REFUSED_KEY_TABLE_TOO_SHORT};
+    static const uint64_t cut[BODY_FIELDS] = {BAFIROLEN_REFUSED_SHORTAGE, 1};
+    static const uint64_t bare[BODY_FIELDS] = {0, 0, 1, 0x80, 0x0178, 2, 12, 4096, BAFIROLEN_TODAY, 4, 16, 0, 0, 0, 0, 34};
+    static const uint64_t few_pairs[BODY_FIELDS] = {BAFIROLEN_REFUSED_PAIR_TABLE_TOO_SHORT};
+    static const uint64_t few_keys[BODY_FIELDS] = {BAFIROLEN_REFUSED_KEY_TABLE_TOO_SHORT};
     BafirolenSection s;
     BafirolenPlace p;
     fresh();
@@ -207,7 +211,7 @@ static void readers(void)
 
 static void writers(void)
 {
-    const BafirolenNumbers n = headers[1].numbers;
+    BafirolenNumbers n = headers[1].numbers;
     BafirolenWritten w;
     written_is("an empty value", bafirolen_copy_value(HOLLOW, 88, 35, NULL, 0, NULL, 0), 0, 0);
     written_is("no pairs", bafirolen_write_aad_section(NULL, 0, NULL, 0, NULL, 0), BAFIROLEN_REFUSED_OUTPUT_TOO_SHORT, 0);
@@ -231,6 +235,11 @@ static void writers(void)
     w = bafirolen_write_header_body(n, BARE + 4, 16, NULL, 0, NULL, 0, NULL, 0, NULL, 0, out, BYTES);
     written_is("a bare header", w, 0, 34);
     output_is("a bare header", BARE, 34);
+    n.form = BAFIROLEN_OLD;
+    fresh();
+    w = bafirolen_write_header_body(n, OLD + 4, 16, NULL, 0, NULL, 0, NULL, 0, NULL, 0, out, BYTES);
+    written_is("a bare header in the old form", w, 0, 36);
+    output_is("a bare header in the old form", OLD, 36);
 }
 
 static void required_keys(void)
@@ -254,7 +263,7 @@ static void required_keys(void)
 static void whole(const struct export *e)
 {
     ask(e->call, 0, NULL);
-    if (e->call != position && !(h->bytes == BARE && (e->call == find || e->call == copy))) {
+    if (e->call != position && !(h->pair_numbers == 0 && (e->call == find || e->call == copy))) {
         same(e->name, answer.record.number, BAFIROLEN_ACCEPTED);
     }
 }

@@ -164,12 +164,13 @@ static void *run_bodies(void *unused)
 {
     /* on each side of the sizes that the index of seen keys has, 32, 512 and 1,024, and about as many pairs as fit */
     static const uint32_t pairs_of[] = {0, 1, 2, 32, 33, 512, 513, 1024, 1025};
-    static const struct shape large[] = {{1, MOST_PAIRS, 60, SHUFFLED, NO_FAULT},
-                                         {2, MOST_PAIRS, 0, DESCENDING, KEY_AGAIN},
-                                         {1, 1, MOST_KEYS, ASCENDING, NO_FAULT},
-                                         {2, MOST_PAIRS, MOST_KEYS, ASCENDING, NO_FAULT},
-                                         {1, 1023, 682, SHUFFLED, NO_FAULT},
-                                         {2, 1024, 682, ASCENDING, NO_FAULT}};
+    static const struct shape large[] = {{1, MOST_PAIRS, 60, SHUFFLED, NO_FAULT, BAFIROLEN_TODAY},
+                                         {2, MOST_PAIRS, 0, DESCENDING, KEY_AGAIN, BAFIROLEN_TODAY},
+                                         {1, 1, MOST_KEYS, ASCENDING, NO_FAULT, BAFIROLEN_TODAY},
+                                         {2, MOST_PAIRS, MOST_KEYS, ASCENDING, NO_FAULT, BAFIROLEN_TODAY},
+                                         {1, 1023, 682, SHUFFLED, NO_FAULT, BAFIROLEN_TODAY},
+                                         {2, 1024, 682, ASCENDING, NO_FAULT, BAFIROLEN_TODAY},
+                                         {2, 0, 2, ASCENDING, NO_FAULT, BAFIROLEN_OLD}};
     struct shape s;
     size_t i;
     handle_faults();
@@ -179,6 +180,8 @@ static void *run_bodies(void *unused)
                 s.pairs = pairs_of[i];
                 s.version = 1 + (s.pairs + s.order) % 2;
                 s.keys = s.pairs % 3;
+                /* without pairs all orders are the same, and one of them is of the old form */
+                s.form = s.pairs == 0 && s.order == SHUFFLED ? BAFIROLEN_OLD : BAFIROLEN_TODAY;
                 run_all(s);
             }
         }

@@ -73,6 +73,9 @@ pub struct BafirolenNumbers {
     /// Above 0 if the content is framed, else 0; a reader that is asked for one
     /// version does not test this.
     pub frame_length: u32,
+    /// How an empty context is stored: 0 today's 00 00, 1 the old 00 02 00 00.
+    /// A writer takes any number but 0 for old.
+    pub form: u32,
 }
 
 /// A body that was read.
@@ -133,7 +136,7 @@ pub struct BafirolenWritten {
 
 /// The declarations here are those of an archive whose [`bafirolen_version`]
 /// answers this.
-pub const VERSION: u32 = 3;
+pub const VERSION: u32 = 4;
 
 extern "C" {
     /// Which declarations the archive was made for.
@@ -259,8 +262,9 @@ extern "C" {
         out_len: usize,
     ) -> BafirolenWritten;
 
-    /// Writes a body. Pairs and keys have their places in one text; message
-    /// ID and suite data are bytes of their own.
+    /// Writes a body in the form that its numbers have. Pairs and keys have
+    /// their places in one text; message ID and suite data are bytes of their
+    /// own.
     pub fn bafirolen_write_header_body(
         numbers: BafirolenNumbers,
         message_id: *const u8,

@@ -1,7 +1,9 @@
 //! Reading a header body.
 
 use crate::request::max_asked;
-use crate::{Keys, Numbers, Pairs, Place, Refusal, Request, NUMBERS_PER_KEY, NUMBERS_PER_PAIR};
+use crate::{
+    Draft, Keys, Numbers, Pairs, Place, Refusal, Request, NUMBERS_PER_KEY, NUMBERS_PER_PAIR,
+};
 use core::fmt;
 
 /// An accepted header body: its numbers and tail, and its parts as they lie in
@@ -10,8 +12,8 @@ use core::fmt;
 #[non_exhaustive]
 #[must_use]
 pub struct Body<'m, 't> {
-    /// Its fields that are numbers. Type and IV length are 0 in version 2,
-    /// which lacks them.
+    /// Its fields that are numbers, and the form that it was read in. Type and
+    /// IV length are 0 in version 2, which lacks them.
     pub numbers: Numbers,
     /// The place right after the body, where its authentication record begins.
     pub tail: u64,
@@ -90,6 +92,42 @@ impl<'m, 't> Body<'m, 't> {
     #[must_use]
     pub fn key_table(&self) -> &'t [u32] {
         &self.keys[..NUMBERS_PER_KEY * self.key_count as usize]
+    }
+
+    /// The draft to write this body again, in the form that it was read in,
+    /// with the message as the text. Into an output that is long enough the
+    /// writer then gives the bytes that were read, those from the start to
+    /// [`tail`](Body::tail). (A reader of one version may give a frame length
+    /// that the writer refuses by 20.)
+    ///
+    /// ```
+    /// use bafirolen::{read_header_body, write_header_body, Form, Request};
+    ///
+    /// # fn main() -> Result<(), bafirolen::Refusal> {
+    /// // An old header, whose empty context is 00 02 00 00.
+    /// let filed = b"\x01\x80\x01\x78\x00\x01\x02\x03\x04\x05\x06\x07\x08\x09\x0A\x0B\x0C\x0D\x0E\x0F\
+    ///     \x00\x02\x00\x00\
+    ///     \x00\x01\x00\x02p1\x00\x01a\x00\x03\xAA\xBB\xCC\
+    ///     \x02\x00\x00\x00\x00\x0C\x00\x00\x10\x00";
+    /// let (mut pairs, mut keys) = ([0; 40], [0; 60]); // up to ten of each
+    /// let body = read_header_body(filed, 0, Request::default(), &mut pairs, &mut keys)?;
+    /// assert_eq!(body.numbers.form, Form::Old);
+    ///
+    /// let mut out = [0; 48];
+    /// let length = write_header_body(&body.draft(), &mut out)?;
+    /// assert_eq!(out[..length], *filed);
+    /// # Ok(())
+    /// # }
+    /// ```
+    #[inline]
+    pub fn draft<'a>(&self) -> Draft<'a>
+    where
+        'm: 'a,
+        't: 'a,
+    {
+        Draft::new(self.numbers, self.message_id())
+            .with_suite_data(self.suite_data())
+            .with_tables(self.message, self.pair_table(), self.key_table())
     }
 }
 

@@ -1,11 +1,11 @@
 //! What a body is written from.
 
-use crate::{IV_LEN, V1_MESSAGE_TYPE};
+use crate::{Form, IV_LEN, V1_MESSAGE_TYPE};
 use bafirolen_sys::BafirolenNumbers;
 
-/// The fields of a body that are numbers, as the reader gives them and the
-/// writer takes them. Each has 32 bits, so that one that its field can't hold
-/// is refused and never cut: 257 is no version.
+/// The fields of a body that are numbers, and its form, as the reader gives
+/// them and the writer takes them. Each number has 32 bits, so that one that its
+/// field can't hold is refused and never cut: 257 is no version.
 #[derive(Clone, Copy, Debug, Default, PartialEq, Eq, Hash)]
 #[non_exhaustive]
 #[must_use]
@@ -25,10 +25,13 @@ pub struct Numbers {
     /// Above 0 if the content is framed, else 0; a reader of one version does
     /// not test this.
     pub frame_length: u32,
+    /// How an empty context is stored.
+    pub form: Form,
 }
 
 impl Numbers {
-    /// Those of a header of version 1, with its type and IV length.
+    /// Those of a header of version 1, with its type and IV length, in today's
+    /// form.
     #[inline]
     pub const fn version_1(suite: u32, content_type: u32, frame_length: u32) -> Numbers {
         Numbers {
@@ -38,11 +41,12 @@ impl Numbers {
             content_type,
             header_iv_length: IV_LEN as u32,
             frame_length,
+            form: Form::Today,
         }
     }
 
     /// Those of a header of version 2, which has no type and stores no IV
-    /// length.
+    /// length, in today's form.
     #[inline]
     pub const fn version_2(suite: u32, content_type: u32, frame_length: u32) -> Numbers {
         Numbers {
@@ -52,7 +56,15 @@ impl Numbers {
             content_type,
             header_iv_length: 0,
             frame_length,
+            form: Form::Today,
         }
+    }
+
+    /// The same numbers, with this form.
+    #[inline]
+    pub const fn with_form(mut self, form: Form) -> Numbers {
+        self.form = form;
+        self
     }
 
     #[inline]
@@ -64,6 +76,7 @@ impl Numbers {
             content_type: record.content_type,
             header_iv_length: record.header_iv_length,
             frame_length: record.frame_length,
+            form: Form::of_number(record.form),
         }
     }
 
@@ -76,6 +89,7 @@ impl Numbers {
             content_type: self.content_type,
             header_iv_length: self.header_iv_length,
             frame_length: self.frame_length,
+            form: self.form.number(),
         }
     }
 }
@@ -83,23 +97,31 @@ impl Numbers {
 /// What a body is written from. By default all of it is empty or 0, which the
 /// writer refuses.
 ///
+/// [`Body::draft`](crate::Body::draft) gives that of a body that was read.
+///
 /// All numbers of a table are taken: after reading, lend
 /// [`pair_table`](crate::Body::pair_table) and
 /// [`key_table`](crate::Body::key_table), and not the tables that the reader was
 /// lent. Zeros at the end of these are places of length 0 and would be written
 /// as empty pairs or keys.
 ///
-/// A body takes 34 bytes in version 1 and 76 in version 2; where it has a pair,
-/// 2 more; 4 for each pair, 6 for each key, and their parts.
+/// A body takes 34 bytes in version 1 and 76 in version 2; where it has a pair
+/// or is marked [`Old`](Form::Old), 2 more; 4 for each pair, 6 for each key, and
+/// their parts.
 ///
 /// ```
-/// use bafirolen::{Draft, Numbers, NON_FRAMED};
+/// use bafirolen::{Draft, Form, Numbers, NON_FRAMED};
 ///
 /// // Version 2, without pairs and keys.
 /// let numbers = Numbers::version_2(0x0478, NON_FRAMED, 0);
 /// let draft = Draft::new(numbers, &[7; 32]).with_suite_data(&[8; 32]);
 /// let mut out = [0; 100];
 /// assert_eq!(bafirolen::write_header_body(&draft, &mut out), Ok(76));
+///
+/// // The same, with the empty context as it was stored once.
+/// let draft = Draft::new(numbers.with_form(Form::Old), &[7; 32]).with_suite_data(&[8; 32]);
+/// assert_eq!(bafirolen::write_header_body(&draft, &mut out), Ok(78));
+/// assert_eq!(out[35..39], [0, 2, 0, 0]);
 /// ```
 #[derive(Clone, Copy, Debug, Default, PartialEq, Eq, Hash)]
 #[non_exhaustive]

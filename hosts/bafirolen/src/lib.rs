@@ -71,6 +71,10 @@
 //! # }
 //! ```
 //!
+//! A body that was read gives its own [`draft`](Body::draft). Written, it is the
+//! bytes that were read, also where these have an empty context in its old
+//! [`Form`].
+//!
 //! # Refusals
 //!
 //! Whatever is handed in, a function accepts it or answers one [`Refusal`].
@@ -147,6 +151,7 @@ mod body;
 mod constants;
 mod draft;
 mod finding;
+mod form;
 mod host;
 mod only_authenticated;
 mod parts;
@@ -163,6 +168,7 @@ pub use body::{read_header_body, Body};
 pub use constants::*;
 pub use draft::{Draft, Numbers};
 pub use finding::{copy_value, find_bytes, find_part, find_value};
+pub use form::Form;
 pub use host::{header_number, header_position, version, write_listing};
 pub use only_authenticated::write_only_authenticated;
 pub use parts::{Key, Keys, Pair, Pairs};

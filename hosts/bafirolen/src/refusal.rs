@@ -48,7 +48,7 @@ macro_rules! refusals {
         }
 
         impl Refusal {
-            /// The refusal's number, 1 to 32 where it is listed.
+            /// The refusal's number, 1 to 33 where it is listed.
             #[must_use]
             pub const fn number(&self) -> u32 {
                 match self {
@@ -125,6 +125,7 @@ refusals! {
     30 TagLength "tag not 16 bytes",
     31 RequiredTableOrPlace "required table of odd length, or a place outside its text",
     32 PastSection "part of a context section that would end past the section",
+    33 PairInOldForm "a pair in a body marked as of the old form",
 }
 
 impl Refusal {

@@ -4,7 +4,8 @@
 /// Whether 00 02 00 00, the old form of an empty context, is accepted.
 #[derive(Clone, Copy, Debug, Default, PartialEq, Eq, Hash)]
 pub enum Mode {
-    /// It is accepted, beside today's 00 00.
+    /// It is accepted, beside today's 00 00, and marks a body as
+    /// [`Form::Old`](crate::Form::Old).
     #[default]
     Tolerant,
     /// It is refused by 21.

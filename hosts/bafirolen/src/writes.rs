@@ -13,7 +13,8 @@ pub(crate) fn length(record: BafirolenWritten) -> Result<usize, Refusal> {
 /// Writes a context section of the table's pairs, whose places lie in `text`,
 /// to the front of `out`; answers its length: 2 where there is no pair, else 4,
 /// 4 for each pair, and their parts. All numbers of the table are taken, as
-/// [`Draft`] says.
+/// [`Draft`] says. A section alone has no form: an empty one is written 00 00,
+/// however it was read.
 ///
 /// # Errors
 ///
@@ -71,7 +72,8 @@ pub fn write_encrypted_data_keys_section(
     })
 }
 
-/// Writes the body of a draft to the front of `out`; answers its length.
+/// Writes the body of a draft to the front of `out`, an empty context in the
+/// draft's form; answers its length.
 ///
 /// # Errors
 ///
@@ -87,6 +89,7 @@ pub fn write_encrypted_data_keys_section(
 ///   11 [`ValueNotUtf8`](Refusal::ValueNotUtf8) and
 ///   12 [`KeySeenBefore`](Refusal::KeySeenBefore), then
 ///   13 [`PairsTooLong`](Refusal::PairsTooLong);
+/// - 33 [`PairInOldForm`](Refusal::PairInOldForm), if the form is old;
 /// - of the keys 26 and 27 likewise, and of each
 ///   16 [`ProviderIdNotUtf8`](Refusal::ProviderIdNotUtf8);
 /// - 17 [`ContentType`](Refusal::ContentType);

@@ -78,6 +78,7 @@ fn of_several_pairs_and_keys() {
         body.pair_table(),
         body.key_table(),
     );
+    assert_eq!(body.draft(), draft);
     let mut out = [0; 100];
     let length = write_header_body(&draft, &mut out).unwrap();
     assert_eq!(out[..length], message[3..]);
@@ -103,6 +104,9 @@ fn of_version_2() {
     assert_eq!(body.suite_data_place(), Place { start: 86, len: 32 });
     assert_eq!((body.pairs().len(), body.keys().len()), (3, 2));
     assert_eq!(body.tail, 118);
+    let mut out = [0; 118];
+    assert_eq!(write_header_body(&body.draft(), &mut out), Ok(118));
+    assert_eq!(out[..], message);
 }
 
 #[test]

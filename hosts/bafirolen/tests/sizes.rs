@@ -3,7 +3,7 @@
 
 use bafirolen::{
     write_aad_section, write_encrypted_data_keys_section, write_header_body,
-    write_only_authenticated, Draft, Numbers, Refusal, FRAMED,
+    write_only_authenticated, Draft, Form, Numbers, Refusal, FRAMED,
 };
 
 /// Places of the lengths given, one after the other.
@@ -22,19 +22,21 @@ fn takes(length: usize, write: impl Fn(&mut [u8]) -> Result<usize, Refusal>) {
     assert_eq!(refused, Err(Refusal::OutputTooShort));
 }
 
-fn body(version: usize, pairs: &[u32], keys: &[u32], text: &[u8]) -> usize {
+fn body(version: usize, form: Form, pairs: &[u32], keys: &[u32], text: &[u8]) -> usize {
     let (id, data) = ([7; 32], [8; 32]);
     let draft = if version == 1 {
-        Draft::new(Numbers::version_1(0x0178, FRAMED, 9), &id[..16])
+        let numbers = Numbers::version_1(0x0178, FRAMED, 9);
+        Draft::new(numbers.with_form(form), &id[..16])
     } else {
         let numbers = Numbers::version_2(0x0578, FRAMED, 9);
-        Draft::new(numbers, &id).with_suite_data(&data)
+        Draft::new(numbers.with_form(form), &id).with_suite_data(&data)
     };
     let (pair_table, key_table) = (table(pairs), table(keys));
     let draft = draft.with_tables(text, &pair_table, &key_table);
     let parts: u32 = pairs.iter().chain(keys).sum();
+    let today_without_pairs = pairs.is_empty() && form == Form::Today;
     let length = [34, 76][version - 1]
-        + if pairs.is_empty() { 0 } else { 2 }
+        + if today_without_pairs { 0 } else { 2 }
         + 4 * (pairs.len() / 2)
         + 6 * (keys.len() / 3)
         + parts as usize;
@@ -54,8 +56,13 @@ fn as_the_docs_say() {
         let length = if pairs.is_empty() { 2 } else { 4 } + 2 * pairs.len() + parts as usize;
         takes(length, |out| write_aad_section(&text, &places, out));
         for keys in keys {
-            let longer = [1, 2].map(|version| body(version, pairs, keys, &text));
+            let today = |version| body(version, Form::Today, pairs, keys, &text);
+            let longer = [1, 2].map(today);
             longest = longest.max(longer[1]);
+            if pairs.is_empty() {
+                let old = |version| body(version, Form::Old, pairs, keys, &text);
+                assert_eq!([1, 2].map(old), longer.map(|length| length + 2));
+            }
         }
     }
     for keys in keys {

@@ -1,7 +1,8 @@
 //! Numbers that agree with the right one in their lowest byte or bytes: each
 //! is refused, and none is cut to what its field holds.
 
-use bafirolen::{read_header_auth_tag, write_header_auth_tag, write_header_body, Draft, Numbers};
+use bafirolen::{read_header_auth_tag, write_header_auth_tag, write_header_body};
+use bafirolen::{Draft, Form, Numbers};
 
 /// Those of document 01's header H.
 const H: Numbers = Numbers::version_1(0x0178, 2, 4_096);
@@ -26,11 +27,12 @@ fn answer(numbers: Numbers) -> u32 {
 fn numbers_that_a_version_has() {
     assert_eq!((H.version, H.message_type, H.suite), (1, 0x80, 0x0178));
     assert_eq!((H.content_type, H.header_iv_length), (2, 12));
-    assert_eq!(H.frame_length, 4_096);
+    assert_eq!((H.frame_length, H.form), (4_096, Form::Today));
     let second = Numbers::version_2(0x0478, 1, 0);
     assert_eq!((second.version, second.message_type), (2, 0));
     assert_eq!((second.suite, second.content_type), (0x0478, 1));
     assert_eq!((second.header_iv_length, second.frame_length), (0, 0));
+    assert_eq!(second.form, Form::Today);
 }
 
 #[test]

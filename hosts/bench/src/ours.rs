@@ -2,8 +2,9 @@
 //! record would be copied, and the copy measured too.
 
 use crate::answer::told;
-use bafirolen::{Draft, Mode, Numbers, Refusal, Request};
+use bafirolen::{Draft, Form, Mode, Numbers, Refusal, Request};
 use generator::fields::Fields;
+use generator::image;
 use generator::tables::Lent;
 
 fn number(refusal: Refusal) -> u32 {
@@ -81,11 +82,25 @@ pub fn write_body(fields: &Fields, lent: &Lent, out: &mut [u8]) -> u64 {
         1 => Numbers::version_1(suite, content_type, frame_length),
         _ => Numbers::version_2(suite, content_type, frame_length),
     };
-    let draft = Draft::new(numbers, &fields.id)
+    let form = match image::Form::marked(fields.form) {
+        image::Form::Today => Form::Today,
+        image::Form::Old => Form::Old,
+    };
+    let draft = Draft::new(numbers.with_form(form), &fields.id)
         .with_suite_data(&fields.suite_data)
         .with_tables(&lent.text, &lent.pairs, &lent.keys);
     told(
         bafirolen::write_header_body(&draft, out)
+            .map(|length| length as u64)
+            .map_err(number),
+    )
+}
+
+#[inline]
+pub fn refile_body(message: &[u8], pairs: &mut [u32], keys: &mut [u32], out: &mut [u8]) -> u64 {
+    told(
+        bafirolen::read_header_body(message, 0, Request::default(), pairs, keys)
+            .and_then(|body| bafirolen::write_header_body(&body.draft(), out))
             .map(|length| length as u64)
             .map_err(number),
     )

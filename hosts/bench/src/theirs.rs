@@ -4,7 +4,7 @@
 use crate::answer::told;
 use generator::fields::Fields;
 use generator::tables::Lent;
-use reference::{Mode, Numbers, Refusal, Which};
+use reference::{Body, Mode, Numbers, Refusal, Which};
 
 fn number(refusal: Refusal) -> u32 {
     refusal.number
@@ -68,6 +68,31 @@ pub fn write_body(fields: &Fields, lent: &Lent, out: &mut [u8]) -> u64 {
     let (id, data) = (&fields.id, &fields.suite_data);
     let (text, pairs, keys) = (&lent.text, &lent.pairs, &lent.keys);
     told(reference::write_header_body(&numbers, id, data, text, pairs, keys, out).map_err(number))
+}
+
+#[inline]
+pub fn refile_body(message: &[u8], pairs: &mut [u32], keys: &mut [u32], out: &mut [u8]) -> u64 {
+    let (which, mode) = (Which::Either, Mode::Tolerant);
+    told(
+        reference::read_header_body(message, 0, which, mode, None, pairs, keys)
+            .and_then(|body| write_again(&body, message, pairs, keys, out))
+            .map_err(number),
+    )
+}
+
+/// Writes a body that was read, the message as the text.
+fn write_again(
+    body: &Body,
+    message: &[u8],
+    pairs: &[u32],
+    keys: &[u32],
+    out: &mut [u8],
+) -> Result<u64, Refusal> {
+    let id = body.id.within(message).expect("the ID that was read");
+    let data = body.suite_data.within(message).expect("the suite data");
+    let pairs = &pairs[..4 * body.pairs as usize];
+    let keys = &keys[..6 * body.keys as usize];
+    reference::write_header_body(&body.numbers(), id, data, message, pairs, keys, out)
 }
 
 #[inline]

@@ -47,6 +47,7 @@ fn body(body: reference::Body) -> Body {
             numbers.content_type,
             numbers.iv_length,
             numbers.frame_length,
+            numbers.form,
         ],
         id: place(body.id),
         pairs: body.pairs,

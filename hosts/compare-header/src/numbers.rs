@@ -1,7 +1,8 @@
 //! Answers that own what they say, so that ours and those of the separate
 //! implementation can be held against each other once nothing is lent.
 
-use bafirolen::{Context, KeySection, Mode, Numbers, Place, Refusal, Which};
+use bafirolen::{Context, Form, KeySection, Mode, Numbers, Place, Refusal, Which};
+use reference::body::{OLD, TODAY};
 
 /// An answer: what was accepted, or the refusal.
 pub type Answer<T> = Result<T, Refusal>;
@@ -118,6 +119,14 @@ pub fn which(which: Which) -> reference::Which {
     }
 }
 
+/// The form of a mark; ours has no other marks than a reader gives.
+pub fn form(mark: u32) -> Form {
+    match mark {
+        TODAY => Form::Today,
+        _ => Form::Old,
+    }
+}
+
 pub fn numbers(theirs: &reference::Numbers) -> Numbers {
     let mut ours = Numbers::default();
     ours.version = theirs.version;
@@ -126,6 +135,7 @@ pub fn numbers(theirs: &reference::Numbers) -> Numbers {
     ours.content_type = theirs.content_type;
     ours.header_iv_length = theirs.iv_length;
     ours.frame_length = theirs.frame_length;
+    ours.form = form(theirs.form);
     ours
 }
 
@@ -137,6 +147,10 @@ pub fn their_numbers(ours: Numbers) -> reference::Numbers {
         content_type: ours.content_type,
         iv_length: ours.header_iv_length,
         frame_length: ours.frame_length,
+        form: match ours.form {
+            Form::Today => TODAY,
+            Form::Old => OLD,
+        },
     }
 }
 

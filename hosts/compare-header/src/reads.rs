@@ -121,6 +121,21 @@ fn parts_of(message: &[u8], body: &bafirolen::Body, tables: &Tables) {
     assert!(body.pair_table() == pairs && body.key_table() == keys);
     pairs_are(message, body.pairs(), pairs);
     keys_are(message, body.keys(), keys);
+    draft_of(message, body);
+}
+
+/// The draft to write it again lends the message, and all that was read of it.
+fn draft_of(message: &[u8], body: &bafirolen::Body) {
+    let draft = body.draft();
+    assert_eq!(draft.numbers, body.numbers);
+    for (lent, part) in [
+        (draft.text, message),
+        (draft.message_id, body.message_id()),
+        (draft.suite_data, body.suite_data()),
+    ] {
+        assert_eq!(lent.as_ptr_range(), part.as_ptr_range());
+    }
+    assert!(draft.pairs == body.pair_table() && draft.keys == body.key_table());
 }
 
 /// A body: the answer, and both tables afterwards.

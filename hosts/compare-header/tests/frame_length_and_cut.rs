@@ -4,7 +4,6 @@
 use compare_header::answers::Answers;
 use compare_header::{compared, reads, requests};
 use generator::fields::Fields;
-use generator::image::Form;
 use generator::large::{agreeing, plain};
 
 /// A content type and a frame length that breaks it.
@@ -39,7 +38,7 @@ fn every_cut() {
     let mut answers = Answers::default();
     let (mut cuts, mut headers) = (0, 0);
     for fields in [1, 2].into_iter().flat_map(breached) {
-        let image = fields.image(Form::Today);
+        let image = fields.image();
         for cut in 0..image.bytes.len() {
             let position = image.wanted(0, cut as u64).expect("a shortage");
             let message = &image.bytes[..cut];
@@ -75,7 +74,7 @@ fn short_tables_and_starts() {
         if fields.pairs.is_empty() {
             continue;
         }
-        let image = fields.image(Form::Today);
+        let image = fields.image();
         let mut message = vec![0x55; 9];
         message.extend_from_slice(&image.bytes);
         let end = message.len();

@@ -3,7 +3,7 @@
 
 use bafirolen::{Mode, Request, Which};
 use compare_header::expected::{as_expected, parts_are};
-use compare_header::numbers::number;
+use compare_header::numbers::{number, numbers};
 use compare_header::scale::seeds;
 use compare_header::{compared, reads, request, Coverage, BODY_READERS};
 use generator::auth_cases::auth_case;
@@ -138,6 +138,8 @@ fn body(seed: u64, case: &BodyCase, request: Request, coverage: &mut Coverage) {
     as_expected(seed, &answer, case.expected);
     if let (Expected::Accepted, Ok(read)) = (case.expected, answer) {
         let (message, fields) = (&case.message, &case.fields);
+        let wanted = numbers(&fields.numbers().into());
+        assert_eq!(read.numbers, wanted, "seed {seed}");
         assert_eq!(read.tail, case.end, "seed {seed}");
         assert_eq!(read.message_id.within(message), Some(&fields.id[..]));
         assert_eq!(

@@ -4,7 +4,6 @@ use compare_header::answers::Answers;
 use compare_header::every::{self, write_body, USES_OF_KEYS, USES_OF_PAIRS};
 use compare_header::{reads, requests};
 use generator::fields::Fields;
-use generator::image::Form;
 use generator::large::plain;
 use generator::many::{pairs, MOST, ORDERS};
 use generator::random::Random;
@@ -111,7 +110,7 @@ fn both_and_tables() {
         let mut fields = plain(version);
         fields.pairs = pairs(&mut random, pair_count, (2, 0), ORDERS[2]);
         fields.keys = keys(key_count);
-        let image = fields.image(Form::Today).bytes;
+        let image = fields.image().bytes;
         let lent = lend(&mut random, &fields.pairs, &fields.keys);
         for (room, wanted) in [(image.len(), 0), (image.len() - 1, 28)] {
             let (answer, out) = write_body(&fields, &lent, &vec![0x11; room]);
@@ -143,7 +142,7 @@ fn hosts() {
             let mut fields = plain(version);
             fields.pairs = pairs(&mut random, pair_count, (2, 0), ORDERS[0]);
             fields.keys = keys(key_count);
-            let image = fields.image(Form::Today).bytes;
+            let image = fields.image().bytes;
             let tail = if wanted == 0 { image.len() as u64 } else { 0 };
             assert_eq!(reads::host_answer(&image, 0), (wanted, tail));
             answers.told(wanted);

@@ -4,7 +4,6 @@
 use compare_header::answers::Answers;
 use compare_header::writes;
 use generator::fields::Fields;
-use generator::image::Form;
 use generator::large::{agreeing, plain, LONGEST};
 use generator::lines::listing;
 use generator::Key;
@@ -15,7 +14,7 @@ const ROOMS: [usize; 6] = [65_535, 65_536, 69_999, 70_000, 70_001, 131_072];
 /// Into each output that the listing fills or doesn't; the text is that of
 /// the fields, and what lies behind it is kept.
 fn list(answers: &mut Answers, fields: &Fields) -> usize {
-    let message = fields.image(Form::Today).bytes;
+    let message = fields.image().bytes;
     let text = listing(fields);
     let length = text.len();
     for room in ROOMS.into_iter().chain([length - 1, length, length + 9]) {
@@ -108,13 +107,13 @@ fn messages_longer_than_the_program_reads() {
         for version in [1, 2] {
             let mut fields = plain(version);
             fields.keys = vec![Key::default(); 3];
-            let mut rest = length - fields.image(Form::Today).bytes.len();
+            let mut rest = length - fields.image().bytes.len();
             for key in &mut fields.keys {
                 let taken = rest.min(50_000);
                 key[1] = vec![0xCD; taken];
                 rest -= taken;
             }
-            assert_eq!(fields.image(Form::Today).bytes.len(), length);
+            assert_eq!(fields.image().bytes.len(), length);
             let listed = list(&mut answers, &fields);
             assert!(listed > 130_900, "{listed}");
             accepted += fitting(listed);

@@ -1,5 +1,5 @@
-//! The records as they cross the boundary: what doesn't apply is 0, and every
-//! number that can stand for a choice stands for one.
+//! The records of readers as they cross the boundary: what doesn't apply is 0,
+//! and every number that can stand for a choice stands for one.
 
 use bafirolen_sys::*;
 use compare_header::compared;
@@ -7,10 +7,9 @@ use compare_header::scale::seeds;
 use generator::auth_cases::auth_case;
 use generator::body_cases::body_case;
 use generator::key_cases::key_case;
-use generator::only_cases::only_case;
 use generator::random::Random;
 use generator::section_cases::section_case;
-use generator::write_cases::write_section_case;
+use std::mem::{offset_of, size_of};
 
 /// A number that chooses: 0, 1, 2, or any other, also one that is 0, 1 or 2
 /// in its lowest byte or bytes.
@@ -55,6 +54,17 @@ fn refusal<T>(answer: &Result<T, reference::Refusal>) -> (u64, u64) {
         Ok(_) => (0, 0),
         Err(refusal) => (refusal.number.into(), refusal.position),
     }
+}
+
+/// As `include/bafirolen_records.h` has them; the numbers of a body end where
+/// nothing else begins.
+#[test]
+fn places_of_fields() {
+    assert_eq!(size_of::<BafirolenNumbers>(), 28);
+    assert_eq!(offset_of!(BafirolenNumbers, form), 24);
+    assert_eq!(size_of::<BafirolenBody>(), 104);
+    assert_eq!(offset_of!(BafirolenBody, numbers), 16);
+    assert_eq!(offset_of!(BafirolenBody, message_id_start), 48);
 }
 
 #[test]
@@ -150,6 +160,7 @@ fn numbers(theirs: &reference::Numbers) -> BafirolenNumbers {
         content_type: theirs.content_type,
         header_iv_length: theirs.iv_length,
         frame_length: theirs.frame_length,
+        form: theirs.form,
     }
 }
 
@@ -212,67 +223,4 @@ fn bodies() {
         count += 1;
     }
     compared(count, "records of bodies");
-}
-
-/// The record of what was written or refused.
-fn written(answer: Result<u64, reference::Refusal>) -> BafirolenWritten {
-    let (number, position) = refusal(&answer);
-    BafirolenWritten {
-        number,
-        position,
-        length: answer.unwrap_or(0),
-    }
-}
-
-#[test]
-fn writes() {
-    let mut count = 0;
-    for seed in seeds(50_000) {
-        let case = write_section_case(seed);
-        let (text, pairs) = (&case.lent.text, &case.lent.pairs);
-        let (mut ours, mut theirs) = (case.out.clone(), case.out);
-        // SAFETY: pointers and lengths are those of vectors, all apart.
-        let written = unsafe {
-            let (out, out_len) = (ours.as_mut_ptr(), ours.len());
-            let (table, len) = (pairs.as_ptr(), pairs.len());
-            bafirolen_write_aad_section(text.as_ptr(), text.len(), table, len, out, out_len)
-        };
-        let wanted = reference::write_aad_section(text, pairs, &mut theirs);
-        assert_eq!(written, self::written(wanted), "seed {seed}");
-        assert!(ours == theirs, "seed {seed}");
-        count += 1;
-    }
-    compared(count, "records of writes");
-}
-
-/// A shortage has a position here too.
-#[test]
-fn only_authenticated() {
-    let mut count = 0;
-    for seed in seeds(50_000) {
-        let case = only_case(seed);
-        let (message, text, required) = (&case.message, case.text(), &case.required);
-        let (mut ours, mut theirs) = (case.out.clone(), case.out.clone());
-        // SAFETY: pointers and lengths are those of vectors, the output's apart
-        // from the others, which are only read.
-        let written = unsafe {
-            bafirolen_write_only_authenticated(
-                message.as_ptr(),
-                message.len(),
-                case.start,
-                text.as_ptr(),
-                text.len(),
-                required.as_ptr(),
-                required.len(),
-                ours.as_mut_ptr(),
-                ours.len(),
-            )
-        };
-        let wanted =
-            reference::write_only_authenticated(message, case.start, text, required, &mut theirs);
-        assert_eq!(written, self::written(wanted), "seed {seed}");
-        assert!(ours == theirs, "seed {seed}");
-        count += 1;
-    }
-    compared(count, "records of what is only authenticated");
 }

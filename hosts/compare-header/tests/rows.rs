@@ -3,7 +3,8 @@
 
 use compare_header::both::{listing, Both};
 use compare_header::{compared, reads};
-use generator::rows::{header_writes, headers, listings, only_authenticated};
+use generator::image::OLD_MARKS;
+use generator::rows::{forms, header_writes, headers, listings, only_authenticated};
 use generator::rows::{records, section_writes, sections, sizes};
 
 /// None of the rows that a table had is lost.
@@ -26,7 +27,20 @@ fn headers_read() {
 fn headers_written() {
     let rows = header_writes::header_v2_is_read_and_written(&Both)
         + header_writes::header_h_is_written_with_each_fault(&Both);
-    held(rows, 5 + 15, "rows of headers written");
+    held(rows, 5 + 16, "rows of headers written");
+}
+
+#[test]
+fn forms_of_bodies() {
+    let rows = forms::read_then_written(&Both)
+        + forms::every_mark(&Both)
+        + forms::a_pair_in_the_old_form(&Both)
+        + forms::no_pair_in_the_old_form(&Both);
+    let marks = OLD_MARKS.len() as u64;
+    let again = 2 * (6 * 4 + (4 * 4 + 2 * 2) * 3);
+    let marked = 2 * (3 + 2 * (3 + 4 * marks) + 3 * marks + 1);
+    let refused = 2 * (2 * (13 + 11) + 1) + 2 * (1 + 11);
+    held(rows, again + marked + refused, "rows of forms");
 }
 
 #[test]

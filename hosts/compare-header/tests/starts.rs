@@ -44,7 +44,7 @@ const KEYS: u64 = 1;
 
 /// Every reader of the header at the start and of its sections.
 fn read_all(answers: &mut Answers, message: &[u8], start: u64, fields: &Fields) {
-    let image = fields.image(Form::Today);
+    let image = fields.image();
     let (number, position) = outcome(&image, start, message);
     for request in requests(fields.version) {
         let (answer, tables) = reads::read_header_body(message, start, request, &[7; 8], &[7; 12]);
@@ -108,7 +108,7 @@ fn up_to_four_gibibytes() {
     let mut answers = Answers::default();
     let (mut accepted, mut short) = (0, 0);
     for fields in [sample(1), sample(2)] {
-        let bytes = fields.image(Form::Today).bytes;
+        let bytes = fields.image().bytes;
         let (_, keys_at) = sections_at(&fields);
         let keys_end = keys_at + keys(&fields.keys).bytes.len() as u64;
         let length = bytes.len() as u64;
@@ -140,7 +140,7 @@ fn at_the_greatest_length() {
     let mut answers = Answers::default();
     let (mut accepted, mut too_large, mut all) = (0, 0, 0);
     for fields in [sample(1), sample(2)] {
-        let bytes = fields.image(Form::Today).bytes;
+        let bytes = fields.image().bytes;
         for there in 0..bytes.len() {
             let start = GREATEST - there;
             with_bytes(&mut memory, start, &bytes, |memory| {

@@ -2,11 +2,10 @@
 
 use compare_listing::{compared, listed, program, refused};
 use generator::fields::{fields, Fields};
-use generator::image::Form;
 use generator::random::Random;
 
 /// Fields of version 1 with that many pairs and keys, none longer than it
-/// has to be: keys of two letters, empty values, empty entries.
+/// has to be: keys of two letters, empty values, empty entries; in today's form.
 fn small(pairs: usize, keys: usize) -> Fields {
     let mut fields = (0..)
         .map(|seed| fields(&mut Random::new(seed)))
@@ -17,6 +16,7 @@ fn small(pairs: usize, keys: usize) -> Fields {
         .map(|i| (vec![letter(i / 64), letter(i % 64)], Vec::new()))
         .collect();
     fields.keys = vec![Default::default(); keys];
+    fields.form = 0;
     fields
 }
 
@@ -24,12 +24,12 @@ fn small(pairs: usize, keys: usize) -> Fields {
 #[test]
 fn more_pairs_and_keys_than_the_tables_hold() {
     for (pairs, keys, number) in [(1_025, 1, 22), (1, 683, 23), (1_025, 683, 22)] {
-        let message = small(pairs, keys).image(Form::Today).bytes;
+        let message = small(pairs, keys).image().bytes;
         let what = format!("{pairs} pairs and {keys} keys");
         listed(&what, &message, &refused(number, 0));
     }
     let fields = small(1_024, 682);
-    let message = fields.image(Form::Today).bytes;
+    let message = fields.image().bytes;
     let text = reference::listing(&message);
     listed("full tables", &message, &text);
     let lines = |word: &[u8]| {
@@ -44,10 +44,10 @@ fn more_pairs_and_keys_than_the_tables_hold() {
 /// listing's last line.
 fn long(length: usize) -> (Vec<u8>, String) {
     let mut fields = small(0, 1);
-    let rest = length - fields.image(Form::Today).bytes.len();
+    let rest = length - fields.image().bytes.len();
     fields.keys[0][2] = vec![0x5A; rest];
     (
-        fields.image(Form::Today).bytes,
+        fields.image().bytes,
         format!("key\t\t\t{}\n", "5a".repeat(rest)),
     )
 }
@@ -74,7 +74,7 @@ fn an_input_as_long_as_the_buffer_and_longer() {
 /// the program says that bytes are wanted.
 #[test]
 fn pairs_that_take_too_many_bytes() {
-    let mut message = small(0, 0).image(Form::Today).bytes;
+    let mut message = small(0, 0).image().bytes;
     message.truncate(20);
     message.extend([0xFF, 0xFF, 0, 1, 0, 0, 0xFF, 0xFA]);
     message.resize(20 + 8 + 65_530, b'a');
@@ -87,7 +87,7 @@ fn pairs_that_take_too_many_bytes() {
 /// pieces, of which the last may be short.
 #[test]
 fn every_cut_of_a_header() {
-    let message = small(3, 2).image(Form::Today).bytes;
+    let message = small(3, 2).image().bytes;
     for cut in 0..=message.len() {
         let message = &message[..cut];
         assert!(program(message) == reference::listing(message), "{cut}");

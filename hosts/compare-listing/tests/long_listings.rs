@@ -3,7 +3,6 @@
 
 use compare_listing::{compared, listed};
 use generator::fields::Fields;
-use generator::image::Form;
 use generator::large::{agreeing, plain};
 use generator::lines::listing;
 
@@ -16,7 +15,7 @@ fn filled(version: u32, pairs: usize, keys: usize, length: usize) -> Fields {
     let mut fields = plain(version);
     fields.pairs = agreeing(9, 4, pairs);
     fields.keys = vec![[b"p".to_vec(), vec![0xFF; 3], Vec::new()]; keys];
-    let rest = length - fields.image(Form::Today).bytes.len();
+    let rest = length - fields.image().bytes.len();
     fields.keys[keys - 1][2] = (0..rest).map(|at| at as u8).collect();
     fields
 }
@@ -29,7 +28,7 @@ fn above_70_000_bytes() {
         for (pairs, keys) in [(0, 1), (3, 2), (1_024, 1), (0, 682), (1_024, 682)] {
             for length in [40_000, 50_000, INPUT - 1, INPUT] {
                 let fields = filled(version, pairs, keys, length);
-                let message = fields.image(Form::Today).bytes;
+                let message = fields.image().bytes;
                 assert_eq!(message.len(), length);
                 let text = listing(&fields);
                 assert!(text.len() > 70_000, "{}", text.len());

@@ -93,12 +93,7 @@ pub fn body_case(seed: u64) -> BodyCase {
 /// An intact body that is cut, or read from a wrong start.
 fn misplaced(random: &mut Random) -> BodyCase {
     let fields = fields(random);
-    let form = if random.one_in(3) {
-        Form::Old
-    } else {
-        Form::Today
-    };
-    let image = fields.image(form);
+    let image = fields.image();
     let placed = match random.below(8) {
         0 => start_past(random, &image, 1),
         1 => start_too_large(random, &image),
@@ -109,13 +104,14 @@ fn misplaced(random: &mut Random) -> BodyCase {
         None => Expected::Open,
     };
     // The old form isn't read strictly here, lest 21 come before the cut.
-    finish(random, fields, placed, form == Form::Today, expected)
+    let today = Form::marked(fields.form) == Form::Today;
+    finish(random, fields, placed, today, expected)
 }
 
 /// A body with a few bits turned.
 fn flipped(random: &mut Random) -> BodyCase {
     let fields = fields(random);
-    let image = fields.image(Form::Today);
+    let image = fields.image();
     let mut placed = whole(random, &image, 0);
     let (start, end) = (placed.start as usize, placed.end as usize);
     flip_bits(random, &mut placed.message[start..end]);
@@ -154,10 +150,10 @@ fn faulty(random: &mut Random) -> BodyCase {
     let mut fields = fields(random);
     let first = fields.version == 1;
 
-    let kind = if random.one_in(3) {
-        sections::kind(random)
-    } else {
-        sections::Kind::Intact
+    let kind = match random.below(12) {
+        0..=3 => sections::kind(random),
+        4 => sections::Kind::OldForm,
+        _ => sections::Kind::Intact,
     };
     let section = sections::build(random, kind);
     let key_kind = match random.below(12) {
@@ -167,6 +163,10 @@ fn faulty(random: &mut Random) -> BodyCase {
     };
     let keys = key_cases::build(random, key_kind);
     fields.pairs = section.pairs.clone();
+    fields.form = match section.verdict {
+        Verdict::Old => Form::Old.mark(),
+        _ => Form::Today.mark(),
+    };
     fields.keys = keys.keys.clone();
 
     let mut reader = reader(random, fields.version);

@@ -2,11 +2,11 @@
 
 use crate::body_cases::{byte_but, unknown_suite};
 use crate::fields::{fields, frame_length, suite_of, Fields};
-use crate::image::Form;
+use crate::image::OLD_MARKS;
 use crate::random::Random;
 use crate::tables::{lend, Lent};
 use crate::write_cases::{keys_to_write, output, pairs_to_write, spoil_table};
-use crate::Expected;
+use crate::{Expected, Pair};
 
 /// A request. Accepted, it puts `image` at the front of the output.
 #[derive(Clone, Debug)]
@@ -20,7 +20,7 @@ pub struct BodyWriteCase {
 
 /// Faults of the fields, in the order of tests; 100 and 101 stand for those
 /// of the pairs and of the keys.
-const ORDER: [u32; 11] = [3, 5, 6, 7, 24, 100, 101, 17, 19, 25, 20];
+const ORDER: [u32; 12] = [3, 5, 6, 7, 24, 100, 33, 101, 17, 19, 25, 20];
 
 /// The request of a seed: any number of faults, of which the first in the
 /// order of tests decides.
@@ -34,7 +34,8 @@ pub fn body_write_case(seed: u64) -> BodyWriteCase {
         (fields.pairs, pairs_fault) = pairs_to_write(random);
         (fields.keys, keys_fault) = keys_to_write(random);
     }
-    let image = fields.image(Form::Today).bytes;
+    fields.form = sound_mark(random, &fields.pairs);
+    let image = fields.image().bytes;
     let mut lent = lend(random, &fields.pairs, &fields.keys);
     if faulty_lists {
         let Lent { text, pairs, keys } = &mut lent;
@@ -55,6 +56,8 @@ pub fn body_write_case(seed: u64) -> BodyWriteCase {
     let faults: Vec<u32> = (0..count)
         .map(|_| random.pick(&ORDER))
         .filter(|&f| f < 100)
+        // Without pairs an old mark is no fault.
+        .filter(|&f| f != 33 || !fields.pairs.is_empty())
         .collect();
     let first = fields.version == 1;
     for &fault in &faults {
@@ -77,6 +80,22 @@ pub fn body_write_case(seed: u64) -> BodyWriteCase {
         out,
         image,
         expected,
+    }
+}
+
+/// A mark that is no fault: today's, or without pairs any.
+fn sound_mark(random: &mut Random, pairs: &[Pair]) -> u32 {
+    match pairs.is_empty() && random.one_in(2) {
+        true => old_mark(random),
+        false => 0,
+    }
+}
+
+/// Any number but 0.
+fn old_mark(random: &mut Random) -> u32 {
+    match random.below(3) {
+        0 => random.between(1, u64::from(u32::MAX)) as u32,
+        _ => random.pick(&OLD_MARKS),
     }
 }
 
@@ -123,6 +142,7 @@ fn spoil(random: &mut Random, fields: &mut Fields, first: bool, fault: u32, faul
         }
         24 => fields.id = wrong_length(random, &[if first { 16 } else { 32 }]),
         25 => fields.suite_data = wrong_length(random, &[if first { 0 } else { 32 }]),
+        33 => fields.form = old_mark(random),
         _ => {}
     }
 }

@@ -22,6 +22,8 @@ pub struct Fields {
     pub content_type: u32,
     pub iv_length: u32,
     pub frame_length: u32,
+    /// The mark of the form.
+    pub form: u32,
     pub suite_data: Vec<u8>,
 }
 
@@ -53,8 +55,8 @@ pub fn back(fields: &Fields, reserved: [u8; 4]) -> Image {
 }
 
 impl Fields {
-    /// Version, type, suite, content type, IV length and frame length.
-    pub fn numbers(&self) -> [u32; 6] {
+    /// Version, type, suite, content type, IV length, frame length and form.
+    pub fn numbers(&self) -> [u32; 7] {
         [
             self.version,
             self.message_type,
@@ -62,13 +64,14 @@ impl Fields {
             self.content_type,
             self.iv_length,
             self.frame_length,
+            self.form,
         ]
     }
 
-    /// The image with an empty context stored in the given form.
-    pub fn image(&self, form: Form) -> Image {
+    /// The image, an empty context stored in the form that is marked.
+    pub fn image(&self) -> Image {
         let mut image = front(self);
-        image.image(&image::section(&self.pairs, form));
+        image.image(&image::section(&self.pairs, Form::marked(self.form)));
         image.image(&image::keys(&self.keys));
         image.image(&back(self, [0; 4]));
         image
@@ -152,12 +155,21 @@ pub fn keys(random: &mut Random, most: usize) -> Vec<Key> {
     keys
 }
 
-/// Fields a writer accepts.
+/// A form that a body with these pairs can have.
+fn form(random: &mut Random, pairs: &[Pair]) -> Form {
+    if pairs.is_empty() && random.one_in(2) {
+        Form::Old
+    } else {
+        Form::Today
+    }
+}
+
+/// Fields a writer accepts, marked as a reader marks them.
 pub fn fields(random: &mut Random) -> Fields {
     let version = 1 + random.below(2) as u32;
     let first = version == 1;
     let content_type = 1 + random.below(2) as u32;
-    Fields {
+    let mut fields = Fields {
         version,
         message_type: if first { 0x80 } else { 0 },
         suite: suite_of(random, version),
@@ -167,6 +179,9 @@ pub fn fields(random: &mut Random) -> Fields {
         content_type,
         iv_length: if first { 12 } else { 0 },
         frame_length: frame_length(random, content_type),
+        form: Form::Today.mark(),
         suite_data: if first { Vec::new() } else { random.bytes(32) },
-    }
+    };
+    fields.form = form(random, &fields.pairs).mark();
+    fields
 }

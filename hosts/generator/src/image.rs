@@ -52,6 +52,28 @@ pub enum Form {
     Old,
 }
 
+/// Marks that a writer takes for old: the one that a reader gives, and others,
+/// of which some are 0 in their lowest byte or bytes.
+pub const OLD_MARKS: [u32; 7] = [1, 2, 0xFF, 0x100, 0x1_0000, 0x8000_0000, u32::MAX];
+
+impl Form {
+    /// The mark of a body that was read in this form.
+    pub const fn mark(self) -> u32 {
+        match self {
+            Form::Today => 0,
+            Form::Old => 1,
+        }
+    }
+
+    /// The form that a writer takes a mark for.
+    pub const fn marked(mark: u32) -> Form {
+        match mark {
+            0 => Form::Today,
+            _ => Form::Old,
+        }
+    }
+}
+
 /// A context section of any pairs, right or wrong, with a stored length and
 /// count that may be wrong as well.
 pub fn section_with(pairs: &[Pair], length: u16, count: u16) -> Image {

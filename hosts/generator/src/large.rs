@@ -18,7 +18,7 @@ pub fn zeros(length: usize) -> Vec<u8> {
     vec![0; length]
 }
 
-/// Fields of a version without pairs and keys, framed.
+/// Fields of a version without pairs and keys, framed, in today's form.
 pub fn plain(version: u32) -> Fields {
     let first = version == 1;
     let id_length = if first { 16 } else { 32 };
@@ -32,6 +32,7 @@ pub fn plain(version: u32) -> Fields {
         content_type: 2,
         iv_length: if first { 12 } else { 0 },
         frame_length: 4096,
+        form: 0,
         suite_data: if first {
             Vec::new()
         } else {
@@ -41,7 +42,7 @@ pub fn plain(version: u32) -> Fields {
 }
 
 /// The bytes that a body of a version takes beside its key section, where it
-/// has no pairs.
+/// has no pairs and today's form.
 pub fn length_without_keys(version: u32) -> u64 {
     match version {
         1 => 1 + 1 + 2 + 16 + 2 + 1 + 4 + 1 + 4,

@@ -1,7 +1,6 @@
 //! The listing of fields, line by line, from the fields alone.
 
 use crate::fields::Fields;
-use crate::image::Form;
 use std::fmt::Write;
 
 /// A tab and lowercase digits for each part.
@@ -18,7 +17,7 @@ fn line<'a>(text: &mut String, word: &str, parts: impl IntoIterator<Item = &'a [
 
 /// What is listed where the image of these fields stands at the front.
 pub fn listing(fields: &Fields) -> String {
-    listing_to(fields, fields.image(Form::Today).bytes.len())
+    listing_to(fields, fields.image().bytes.len())
 }
 
 /// What is listed of these fields where their header ends at `tail`.

@@ -10,6 +10,9 @@ use crate::suites::{lookup, Suite};
 pub const TYPE_V1: u32 = 0x80;
 pub const NON_FRAMED: u32 = 1;
 pub const FRAMED: u32 = 2;
+/// The forms of a body: an empty context is 00 00 today, and was 00 02 00 00.
+pub const TODAY: u32 = 0;
+pub const OLD: u32 = 1;
 
 /// Which reader: either version, or one only. Those of one version refuse the
 /// other with 4 and don't hold the frame length against the content type.
@@ -21,7 +24,8 @@ pub enum Which {
 }
 
 /// An accepted body. Type, IV length and suite data are 0 (start 0, length 0)
-/// in the version that lacks them.
+/// in the version that lacks them. The form is `OLD` where the context is empty
+/// and was stored as it once was, otherwise `TODAY`.
 #[derive(Clone, Copy, Debug, PartialEq, Eq)]
 pub struct Body {
     pub version: u32,
@@ -33,6 +37,7 @@ pub struct Body {
     pub content_type: u32,
     pub iv_length: u32,
     pub frame_length: u32,
+    pub form: u32,
     pub suite_data: Place,
     pub tail: u64,
 }
@@ -112,6 +117,7 @@ pub fn read_header_body(
         content_type,
         iv_length,
         frame_length,
+        form: if pair_section.old { OLD } else { TODAY },
         suite_data,
         tail,
     })

@@ -1,13 +1,17 @@
 //! Writing a header body of either version.
 
-use crate::body::{frame_fits, id_length, Body, FRAMED, NON_FRAMED, TYPE_V1};
+use crate::body::{frame_fits, id_length, Body, FRAMED, NON_FRAMED, TODAY, TYPE_V1};
 use crate::context_write;
 use crate::keys;
 use crate::leaves::put;
 use crate::refusal::*;
 use crate::suites::{lookup, Suite};
 
-/// The fields of a body that are numbers.
+/// An empty context as it was stored once.
+const OLD_EMPTY: [u8; 4] = [0, 2, 0, 0];
+
+/// The fields of a body that are numbers, and the mark of its form: `TODAY`,
+/// or any other number for old.
 #[derive(Clone, Copy, Debug, Default, PartialEq, Eq)]
 pub struct Numbers {
     pub version: u32,
@@ -16,12 +20,13 @@ pub struct Numbers {
     pub content_type: u32,
     pub iv_length: u32,
     pub frame_length: u32,
+    pub form: u32,
 }
 
-impl From<[u32; 6]> for Numbers {
+impl From<[u32; 7]> for Numbers {
     /// From the numbers in the order of the fields above.
-    fn from(list: [u32; 6]) -> Numbers {
-        let [version, message_type, suite, content_type, iv_length, frame_length] = list;
+    fn from(list: [u32; 7]) -> Numbers {
+        let [version, message_type, suite, content_type, iv_length, frame_length, form] = list;
         Numbers {
             version,
             message_type,
@@ -29,6 +34,7 @@ impl From<[u32; 6]> for Numbers {
             content_type,
             iv_length,
             frame_length,
+            form,
         }
     }
 }
@@ -43,6 +49,7 @@ impl Body {
             content_type: self.content_type,
             iv_length: self.iv_length,
             frame_length: self.frame_length,
+            form: self.form,
         }
     }
 }
@@ -62,6 +69,19 @@ fn test_front(numbers: &Numbers) -> Result<(), Refusal> {
         return Err(Refusal::of(SUITE_OF_OTHER_VERSION));
     }
     Ok(())
+}
+
+/// The pairs' refusals but 28, then 33; answers the context section's length.
+/// Only an empty context has an old form.
+fn test_context(numbers: &Numbers, text: &[u8], pairs: &[u32]) -> Result<u64, Refusal> {
+    let length = context_write::test_pairs(text, pairs)?;
+    if numbers.form == TODAY {
+        return Ok(length);
+    }
+    if !pairs.is_empty() {
+        return Err(Refusal::of(PAIR_IN_OLD_FORM));
+    }
+    Ok(OLD_EMPTY.len() as u64)
 }
 
 /// Refusals 17, 19, 25 and 20: what stands behind the keys.
@@ -86,8 +106,8 @@ fn test_back(numbers: &Numbers, suite_data: &[u8]) -> Result<(), Refusal> {
 }
 
 /// Writes a body from the output's first byte; answers its length. Pairs and
-/// keys have their places in one text. 3; 5; 6; 7; 24; the pairs' and then the
-/// keys' but 28; 17; 19; 25; 20; 28.
+/// keys have their places in one text. 3; 5; 6; 7; 24; the pairs' but 28; 33;
+/// the keys' but 28; 17; 19; 25; 20; 28.
 pub fn write_header_body(
     numbers: &Numbers,
     id: &[u8],
@@ -101,7 +121,7 @@ pub fn write_header_body(
     if id.len() as u64 != id_length(numbers.version) {
         return Err(Refusal::of(ID_LENGTH));
     }
-    let pairs_length = context_write::test_pairs(text, pairs)?;
+    let pairs_length = test_context(numbers, text, pairs)?;
     let keys_length = keys::test_keys(text, keys)?;
     test_back(numbers, suite_data)?;
     let front_length = match numbers.version {
@@ -118,7 +138,7 @@ pub fn write_header_body(
     }
 
     let mut at = put_front(numbers, id, out);
-    at += context_write::put_section(text, pairs, pairs_length, &mut out[at..]);
+    at += put_context(numbers, text, pairs, pairs_length, &mut out[at..]);
     at += keys::put_section(text, keys, &mut out[at..]);
     put_back(numbers, suite_data, &mut out[at..]);
     Ok(length)
@@ -131,6 +151,20 @@ fn put_front(numbers: &Numbers, id: &[u8], out: &mut [u8]) -> usize {
     }
     at = put(out, at, &(numbers.suite as u16).to_be_bytes());
     put(out, at, id)
+}
+
+/// Writes a tested context; answers the place after it.
+fn put_context(
+    numbers: &Numbers,
+    text: &[u8],
+    pairs: &[u32],
+    length: u64,
+    out: &mut [u8],
+) -> usize {
+    if numbers.form != TODAY {
+        return put(out, 0, &OLD_EMPTY);
+    }
+    context_write::put_section(text, pairs, length, out)
 }
 
 fn put_back(numbers: &Numbers, suite_data: &[u8], out: &mut [u8]) {

@@ -25,6 +25,8 @@ pub struct PairsRead {
 pub(crate) struct Section {
     pub count: u32,
     pub tail: u64,
+    /// Stored as 00 02 00 00.
+    pub old: bool,
     first_pair: u64,
 }
 
@@ -68,6 +70,7 @@ pub(crate) fn walk(message: &[u8], start: u64, mode: Mode) -> Result<Section, Re
         return Ok(Section {
             count: 0,
             tail: body,
+            old: false,
             first_pair: body,
         });
     }
@@ -85,6 +88,7 @@ pub(crate) fn walk(message: &[u8], start: u64, mode: Mode) -> Result<Section, Re
         return Ok(Section {
             count: 0,
             tail: first_pair,
+            old: true,
             first_pair,
         });
     }
@@ -98,6 +102,7 @@ pub(crate) fn walk(message: &[u8], start: u64, mode: Mode) -> Result<Section, Re
     Ok(Section {
         count: u32::from(count),
         tail,
+        old: false,
         first_pair,
     })
 }

@@ -7,7 +7,8 @@
 //!
 //! Numbers that are fields (version, suite and so on) are `u32` throughout,
 //! so that a caller can hand in one wider than its stored form; it is refused
-//! as any other wrong number is.
+//! as any other wrong number is. The mark of a form alone is never wrong: 0 is
+//! today's, any other number old.
 #![forbid(unsafe_code)]
 
 pub mod auth;

@@ -57,6 +57,7 @@ pub const NOT_FOUND: u32 = 29;
 pub const TAG_LENGTH: u32 = 30;
 pub const REQUIRED_PLACES: u32 = 31;
 pub const PAST_SECTION: u32 = 32;
+pub const PAIR_IN_OLD_FORM: u32 = 33;
 
 /// The greatest message length and start any reader takes. Below it every
 /// position is far from overflow, and every place fits a table entry.

@@ -14,5 +14,5 @@ fn header_v2_is_read_and_written() {
 #[test]
 fn header_h_is_written_with_each_fault() {
     let rows = header_writes::header_h_is_written_with_each_fault(&Reference);
-    report_rows("header H written", rows, 15);
+    report_rows("header H written", rows, 16);
 }

@@ -4,7 +4,6 @@ mod common;
 
 use common::{report, report_rows};
 use generator::fields::fields;
-use generator::image::Form;
 use generator::lines::listing_to;
 use generator::random::Random;
 use generator::rows::listings;
@@ -28,12 +27,7 @@ fn generated_headers_are_listed() {
     for seed in 0..SEEDS {
         let mut random = Random::new(seed);
         let fields = fields(&mut random);
-        let form = if seed % 2 == 0 {
-            Form::Today
-        } else {
-            Form::Old
-        };
-        let mut message = fields.image(form).bytes;
+        let mut message = fields.image().bytes;
         let tail = message.len();
         let behind = random.length(30);
         message.extend(random.bytes(behind));

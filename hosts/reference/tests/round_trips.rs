@@ -39,9 +39,10 @@ fn written_then_read() {
         if seed % 1_000 == 0 {
             let total = 65_533 - random.index(3);
             stretch(&mut random, &mut fields.pairs, total);
+            fields.form = 0;
         }
         let lent = lend(&mut random, &fields.pairs, &fields.keys);
-        let image = fields.image(Form::Today).bytes;
+        let image = fields.image().bytes;
         let before = random.length(20);
         let behind = random.length(20);
         let mut message = random.bytes(before + image.len() + behind);
@@ -85,57 +86,86 @@ fn written_then_read() {
                 max,
                 &mut pairs,
                 &mut keys,
-            )
-            .unwrap_or_else(|refusal| panic!("seed {seed}: {refusal:?}"));
+            );
+            compared += 1;
+            if fields.form != 0 && mode == Mode::Strict {
+                assert_eq!(body, Err(Refusal::of(21)), "seed {seed}");
+                continue;
+            }
+            let body = body.unwrap_or_else(|refusal| panic!("seed {seed}: {refusal:?}"));
             assert_eq!(body.tail, end as u64, "seed {seed}");
             gives(&fields, &message, &body, &pairs, &keys);
-            compared += 1;
         }
     }
     report("written then read", compared);
 }
 
+/// Bodies of both forms, at any start: each is marked as the form that it has,
+/// and written again to the bytes that were read.
 #[test]
-fn old_images_are_read_and_written_as_todays() {
+fn both_forms() {
     const SEEDS: u64 = 100_000;
-    let mut old_forms = 0;
+    let (mut compared, mut old_forms) = (0, 0);
     for seed in 0..SEEDS {
         let mut random = Random::new(!seed);
-        let fields = fields(&mut random);
-        let old = fields.image(Form::Old).bytes;
-        let today = fields.image(Form::Today).bytes;
-        let mut pairs = vec![0; 4 * fields.pairs.len()];
-        let mut keys = vec![0; 6 * fields.keys.len()];
-        let mut read =
-            |mode| read_header_body(&old, 0, Which::Either, mode, None, &mut pairs, &mut keys);
-        let strict = read(Mode::Strict);
-        let body = read(Mode::Tolerant).unwrap();
-        if fields.pairs.is_empty() {
-            assert_eq!(
-                strict,
-                Err(Refusal {
-                    number: 21,
-                    position: 0
-                })
-            );
-            assert_eq!(old.len(), today.len() + 2);
-            old_forms += 1;
-        } else {
-            assert_eq!((strict, &old), (Ok(body), &today));
+        let mut fields = fields(&mut random);
+        for form in [Form::Today, Form::Old] {
+            // Only an empty context has an old form.
+            if form == Form::Old && !fields.pairs.is_empty() {
+                continue;
+            }
+            fields.form = form.mark();
+            old_forms += u64::from(fields.form);
+            compared += refiled(&mut random, &fields);
         }
-        assert_eq!(body.tail, old.len() as u64);
-        gives(&fields, &old, &body, &pairs, &keys);
-        let mut out = vec![0; today.len()];
-        let length = write_again(&body, &old, &pairs, &keys, &mut out);
-        assert_eq!(
-            (length, out),
-            (Ok(today.len() as u64), today),
-            "seed {seed}"
-        );
     }
     println!("{old_forms} of them with 00 02 00 00");
-    assert!(old_forms > 0);
-    report("old images", SEEDS);
+    assert!(old_forms > SEEDS / 10);
+    report("bodies of both forms", compared);
+}
+
+/// The image of the fields, read by every reader that takes it, and written
+/// again; answers how many.
+fn refiled(random: &mut Random, fields: &Fields) -> u64 {
+    let image = fields.image().bytes;
+    let (before, behind) = (random.length(20), random.length(20));
+    let mut message = random.bytes(before);
+    message.extend_from_slice(&image);
+    message.extend(random.bytes(behind));
+    let one = [Which::V1, Which::V2][fields.version as usize - 1];
+    let mut pairs = vec![0; 4 * fields.pairs.len()];
+    let mut keys = vec![0; 6 * fields.keys.len()];
+    let start = before as u64;
+    for which in [Which::Either, one] {
+        let mut read =
+            |mode| read_header_body(&message, start, which, mode, None, &mut pairs, &mut keys);
+        let strict = read(Mode::Strict);
+        let body = read(Mode::Tolerant).unwrap();
+        match fields.form {
+            0 => assert_eq!(strict, Ok(body)),
+            _ => assert_eq!(strict, Err(Refusal::of(21))),
+        }
+        gives(fields, &message, &body, &pairs, &keys);
+        is_written_again(&body, &message, &pairs, &keys, &image);
+    }
+    2
+}
+
+/// What is written again is the image: into an output that just holds it, and
+/// into a longer one, whose rest keeps; a shorter one is refused.
+fn is_written_again(body: &Body, message: &[u8], pairs: &[u32], keys: &[u32], image: &[u8]) {
+    let length = image.len();
+    for room in [length, length + 7] {
+        let mut out = vec![0xEE; room];
+        let answer = write_again(body, message, pairs, keys, &mut out);
+        assert_eq!(answer, Ok(length as u64));
+        assert_eq!(out[..length], *image);
+        assert!(out[length..].iter().all(|&byte| byte == 0xEE));
+    }
+    let mut out = vec![0xEE; length - 1];
+    let answer = write_again(body, message, pairs, keys, &mut out);
+    assert_eq!(answer, Err(Refusal::of(28)));
+    assert!(out.iter().all(|&byte| byte == 0xEE));
 }
 
 /// Writes a body from the message it was read in.
@@ -154,11 +184,11 @@ fn write_again(
 }
 
 /// Whatever is accepted, damaged or not, is written again to the bytes it was
-/// read from, but for the old form.
+/// read from.
 #[test]
 fn read_then_written() {
     const SEEDS: u64 = 400_000;
-    let mut compared = 0;
+    let (mut compared, mut old_forms) = (0, 0);
     for seed in 1_000_000..1_000_000 + SEEDS {
         let case = body_case(seed);
         let (mut pairs, mut keys) = (vec![0; 4 * 64], vec![0; 6 * 64]);
@@ -174,21 +204,14 @@ fn read_then_written() {
         let Ok(body) = answer else { continue };
         let image = &case.message[case.start as usize..body.tail as usize];
         let section = if body.version == 1 { 20 } else { 35 };
-        let mut wanted = image.to_vec();
-        if image[section..section + 4] == [0, 2, 0, 0] {
-            wanted.drain(section + 1..section + 3);
-            wanted[section] = 0;
-        }
-        let mut out = vec![0; wanted.len()];
-        let length = write_again(&body, &case.message, &pairs, &keys, &mut out);
-        assert_eq!(
-            (length, out),
-            (Ok(wanted.len() as u64), wanted),
-            "seed {seed}"
-        );
+        let old = image[section..section + 4] == [0, 2, 0, 0];
+        assert_eq!(body.form, u32::from(old), "seed {seed}");
+        is_written_again(&body, &case.message, &pairs, &keys, image);
+        old_forms += body.form;
         compared += 1;
     }
     assert!(compared >= 100_000, "{compared}");
+    assert!(old_forms >= 5_000, "{old_forms}");
     report("read then written", compared);
 }
 

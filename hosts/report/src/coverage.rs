@@ -3,8 +3,8 @@
 use crate::{listed, say};
 use std::collections::{BTreeMap, BTreeSet};
 
-/// The refusals are 1 to 32.
-const NUMBERS: usize = 33;
+/// The refusals are 1 to 33.
+const NUMBERS: usize = 34;
 
 /// Answers counted by operation; column 0 is acceptance.
 #[derive(Default)]

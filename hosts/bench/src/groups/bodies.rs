@@ -25,6 +25,8 @@ pub fn rows(table: &mut Table) {
     let h = headers_h();
     read(table, "body read, H", &h);
     write(table, "body write, H", &h);
+    write(table, "body write, old empty context", &old_headers());
+    refile(table, "body read, then written again, H", &h);
     for (name, pair_count, key_count) in SIZES {
         let bodies = bodies(pair_count, key_count);
         read(table, &format!("body read, {name}"), &bodies);
@@ -50,6 +52,16 @@ fn headers_h() -> Vec<Fields> {
         let [provider, info] = [letters(2), letters(1)];
         let keys = vec![[provider, info, random.bytes(3)]];
         headers.push(fields(random.bytes(16), pairs, keys));
+    }
+    headers
+}
+
+/// The same with an empty context in its old form.
+fn old_headers() -> Vec<Fields> {
+    let mut headers = headers_h();
+    for fields in &mut headers {
+        fields.pairs.clear();
+        fields.form = Form::Old.mark();
     }
     headers
 }
@@ -80,12 +92,13 @@ fn fields(id: Vec<u8>, pairs: Vec<Pair>, keys: Vec<Key>) -> Fields {
         content_type: 2,
         iv_length: 12,
         frame_length: 4_096,
+        form: Form::Today.mark(),
         suite_data: Vec::new(),
     }
 }
 
 fn messages(bodies: &[Fields]) -> Vec<Vec<u8>> {
-    let image = |body: &Fields| body.image(Form::Today).bytes;
+    let image = |body: &Fields| body.image().bytes;
     bodies.iter().map(image).collect()
 }
 
@@ -131,6 +144,31 @@ fn write(table: &mut Table, what: &str, bodies: &[Fields]) {
         },
     );
     assert!(our_out == their_out);
+    table.row(what, "reference", times);
+}
+
+/// Reads each body and writes it again, to the bytes that were read.
+fn refile(table: &mut Table, what: &str, bodies: &[Fields]) {
+    let messages = messages(bodies);
+    let message = |call: usize| &black_box(&messages[..])[call % bodies.len()];
+    let [mut ours, mut theirs] = [(); 2].map(|_| {
+        let numbers = (4 * bodies[0].pairs.len(), 6 * bodies[0].keys.len());
+        (vec![0; numbers.0], vec![0; numbers.1], vec![0; 256])
+    });
+    let times = agreed(
+        bodies.len(),
+        None,
+        |call| {
+            let (pairs, keys, out) = black_box(&mut ours);
+            ours::refile_body(message(call), pairs, keys, out)
+        },
+        |call| {
+            let (pairs, keys, out) = black_box(&mut theirs);
+            theirs::refile_body(message(call), pairs, keys, out)
+        },
+    );
+    assert!(ours == theirs);
+    assert!(messages.iter().any(|message| ours.2.starts_with(message)));
     table.row(what, "reference", times);
 }
 

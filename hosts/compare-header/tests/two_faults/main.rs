@@ -6,7 +6,8 @@
 //!
 //! A new refusal is a row at its place in a table, and a number in the
 //! operation's list of `report`, which the tables are held against, but for
-//! copying and what a host is told, which are made from others.
+//! copying, what a host is told and bodies of the old form, which are made from
+//! others.
 
 mod apart;
 mod bodies;

@@ -97,30 +97,54 @@ const SUITE: usize = 2;
 const CONTENT_TYPE: usize = 3;
 const IV_LENGTH: usize = 4;
 
-/// Write a body of a version.
-fn body(version: u32) -> Listed<WriteDraft> {
+/// What stands before the pairs of a body.
+fn front(version: u32) -> Faults {
     let other_suite = if version == 1 { 0x0478 } else { 0x0378 };
-    let mut list = vec![
+    vec![
         write("3 version", |d| d.numbers[VERSION] = 3),
         write("5 type", |d| d.numbers[TYPE] ^= 1),
         write("6 suite", |d| d.numbers[SUITE] ^= 1),
         write("7 suite", move |d| d.numbers[SUITE] = other_suite),
         write("24 ID", |d| d.id.push(0)),
-    ];
-    list.extend(pairs());
-    list.extend(keys());
-    list.extend([
+    ]
+}
+
+/// What stands behind its keys.
+fn back() -> Faults {
+    vec![
         write("17 content type", |d| d.numbers[CONTENT_TYPE] = 3),
         write("19 IV length", |d| d.numbers[IV_LENGTH] += 1),
         write("25 suite data", |d| d.suite_data.push(0)),
         write("20 framed", |d| d.content(2, 0)),
         write("20 non-framed", |d| d.content(1, 1)),
         output(),
-    ]);
+    ]
+}
+
+/// Write a body of a version.
+fn body(version: u32) -> Listed<WriteDraft> {
+    let mut list = front(version);
+    list.extend(pairs());
+    list.push(write("33 form", |d| d.mark_old()));
+    list.extend(keys());
+    list.extend(back());
     Listed {
         operation: "write body",
         version: Some(version),
         sound: WriteDraft::body(version),
+        list,
+    }
+}
+
+/// Write a body of a version in the old form, which has no pair to be refused.
+fn old_body(version: u32) -> Listed<WriteDraft> {
+    let mut list = front(version);
+    list.extend(keys());
+    list.extend(back());
+    Listed {
+        operation: "write old body",
+        version: Some(version),
+        sound: WriteDraft::old_body(version),
         list,
     }
 }
@@ -143,6 +167,7 @@ fn auth(version: u32) -> Listed<RecordDraft> {
 pub fn lists() -> Vec<Names> {
     let mut lists = vec![context().names(), key_section().names()];
     lists.extend([1, 2].map(|version| body(version).names()));
+    lists.extend([1, 2].map(|version| old_body(version).names()));
     lists.extend([1, 2].map(|version| auth(version).names()));
     lists
 }
@@ -160,18 +185,29 @@ fn sections() {
     answers.assert_complete(["write section", "write keys"]);
 }
 
+fn body_answer(d: &WriteDraft) -> (u32, u64) {
+    let lent = Draft::new(numbers(&reference::Numbers::from(d.numbers)), &d.id)
+        .with_suite_data(&d.suite_data)
+        .with_tables(&d.text, &d.pairs, &d.keys);
+    answered(&writes::write_header_body(lent, &vec![0xEE; d.room]).0)
+}
+
 #[test]
 fn written_bodies() {
     let mut answers = Coverage::default();
     for version in [1, 2] {
-        body(version).every_pair(&mut answers, |d| {
-            let lent = Draft::new(numbers(&reference::Numbers::from(d.numbers)), &d.id)
-                .with_suite_data(&d.suite_data)
-                .with_tables(&d.text, &d.pairs, &d.keys);
-            answered(&writes::write_header_body(lent, &vec![0xEE; d.room]).0)
-        });
+        body(version).every_pair(&mut answers, body_answer);
     }
     answers.assert_complete(["write body"]);
+}
+
+#[test]
+fn written_old_bodies() {
+    let mut answers = Coverage::default();
+    for version in [1, 2] {
+        old_body(version).every_pair(&mut answers, body_answer);
+    }
+    answers.assert_answered(["write old body"]);
 }
 
 #[test]

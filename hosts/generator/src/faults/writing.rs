@@ -10,8 +10,8 @@ use crate::{Key, Pair};
 /// holds what is written. Texts are spoilt in any of them, tables in the last.
 #[derive(Clone, Debug, PartialEq)]
 pub struct WriteDraft {
-    /// Version, type, suite, content type, IV length and frame length.
-    pub numbers: [u32; 6],
+    /// Version, type, suite, content type, IV length, frame length and form.
+    pub numbers: [u32; 7],
     pub id: Vec<u8>,
     pub suite_data: Vec<u8>,
     pub text: Vec<u8>,
@@ -73,6 +73,21 @@ impl WriteDraft {
         image.image(&keys(&key_list()));
         image.image(&back(&fields, [0; 4]));
         WriteDraft::new(version, image.bytes.len())
+    }
+
+    /// A body of the old form: without pairs, and marked so.
+    pub fn old_body(version: u32) -> WriteDraft {
+        let mut draft = WriteDraft::body(version);
+        draft.room -= section(&pairs(), Form::Today).bytes.len();
+        draft.room += section(&[], Form::Old).bytes.len();
+        draft.pairs.clear();
+        draft.mark_old();
+        draft
+    }
+
+    /// The mark of the old form.
+    pub fn mark_old(&mut self) {
+        self.numbers[6] = Form::Old.mark();
     }
 
     /// The content type and the frame length.

@@ -14,8 +14,9 @@ pub fn header_v2_is_read_and_written(codec: &impl Codec) -> u64 {
             .read_body(&v2, Asked::new(version, true), &mut pairs, &mut keys)
             .unwrap();
         assert_eq!(body.id, (3, 32));
-        let [_, message_type, _, _, iv_length, frame_length] = body.numbers;
+        let [_, message_type, _, _, iv_length, frame_length, form] = body.numbers;
         assert_eq!((message_type, iv_length, frame_length), (0, 0, 0));
+        assert_eq!(form, 0);
         assert_eq!(body.suite_data, (53, 32));
         assert_eq!(body.tail, v2.len() as u64);
         compared += 1;
@@ -37,31 +38,32 @@ pub fn header_v2_is_read_and_written(codec: &impl Codec) -> u64 {
     compared + 1
 }
 
-/// Version, type, suite, content type, IV length and frame length of H.
-const RIGHT: [u32; 6] = [1, 0x80, 0x0178, 2, 12, 4096];
+/// Version, type, suite, content type, IV length, frame length and form of H.
+const RIGHT: [u32; 7] = [1, 0x80, 0x0178, 2, 12, 4096, 0];
 
 /// Numbers, the ID and the suite data as parts of H, and the refusal.
-type Row = ([u32; 6], Range<usize>, Range<usize>, u32);
+type Row = ([u32; 7], Range<usize>, Range<usize>, u32);
 
-const FAULTS: [Row; 13] = [
-    ([0, 0x80, 0x0178, 2, 12, 4096], 4..20, 0..0, 3),
-    ([2, 0x80, 0x0178, 2, 12, 4096], 4..20, 0..0, 5),
-    ([2, 0, 0x0178, 2, 12, 4096], 4..20, 0..0, 7),
-    ([1, 0, 0x0178, 2, 12, 4096], 4..20, 0..0, 5),
-    ([1, 0x80, 0x0179, 2, 12, 4096], 4..20, 0..0, 6),
-    ([1, 0x80, 0x0478, 2, 12, 4096], 4..20, 0..0, 7),
+const FAULTS: [Row; 14] = [
+    ([0, 0x80, 0x0178, 2, 12, 4096, 0], 4..20, 0..0, 3),
+    ([2, 0x80, 0x0178, 2, 12, 4096, 0], 4..20, 0..0, 5),
+    ([2, 0, 0x0178, 2, 12, 4096, 0], 4..20, 0..0, 7),
+    ([1, 0, 0x0178, 2, 12, 4096, 0], 4..20, 0..0, 5),
+    ([1, 0x80, 0x0179, 2, 12, 4096, 0], 4..20, 0..0, 6),
+    ([1, 0x80, 0x0478, 2, 12, 4096, 0], 4..20, 0..0, 7),
     (RIGHT, 4..19, 0..0, 24),
     (RIGHT, 4..36, 0..0, 24),
-    ([1, 0x80, 0x0178, 3, 12, 4096], 4..20, 0..0, 17),
-    ([1, 0x80, 0x0178, 2, 0, 4096], 4..20, 0..0, 19),
+    ([1, 0x80, 0x0178, 2, 12, 4096, 1], 4..20, 0..0, 33),
+    ([1, 0x80, 0x0178, 3, 12, 4096, 0], 4..20, 0..0, 17),
+    ([1, 0x80, 0x0178, 2, 0, 4096, 0], 4..20, 0..0, 19),
     (RIGHT, 4..20, 0..32, 25),
-    ([1, 0x80, 0x0178, 1, 12, 4096], 4..20, 0..0, 20),
-    ([1, 0x80, 0x0178, 2, 12, 0], 4..20, 0..0, 20),
+    ([1, 0x80, 0x0178, 1, 12, 4096, 0], 4..20, 0..0, 20),
+    ([1, 0x80, 0x0178, 2, 12, 0, 0], 4..20, 0..0, 20),
 ];
 
 pub fn header_h_is_written_with_each_fault(codec: &impl Codec) -> u64 {
     let h = header_h();
-    let write = |numbers: [u32; 6], id: Range<usize>, suite_data: Range<usize>, room: usize| {
+    let write = |numbers: [u32; 7], id: Range<usize>, suite_data: Range<usize>, room: usize| {
         let lent = Lent {
             numbers,
             id: &h[id],

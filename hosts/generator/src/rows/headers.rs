@@ -29,7 +29,7 @@ pub fn header_h_is_read_whole(codec: &impl Codec) -> u64 {
         };
         let body = codec.read_body(&h, asked, &mut pairs, &mut keys);
         let wanted = Body {
-            numbers: [1, 0x80, 0x0178, 2, 12, 4096],
+            numbers: [1, 0x80, 0x0178, 2, 12, 4096, 0],
             id: (4, 16),
             pairs: 1,
             keys: 1,
@@ -74,16 +74,18 @@ pub fn an_empty_context_has_two_forms(codec: &impl Codec) -> u64 {
     assert_eq!((today.len(), old.len()), (46, 48));
     let mut compared = 0;
     for version in [0, 1] {
-        for (message, tail) in [(&today, 46), (&old, 48)] {
+        for (message, tail, form) in [(&today, 46, 0), (&old, 48, 1)] {
             let body = read(codec, message, Asked::new(version, false)).unwrap();
             assert_eq!(
                 (body.pairs, body.keys, body.tail, body.numbers[4]),
                 (0, 1, tail, 12)
             );
+            assert_eq!(body.numbers[6], form);
             compared += 1;
         }
         let strict = Asked::new(version, true);
-        assert!(read(codec, &today, strict).is_ok());
+        let body = read(codec, &today, strict).unwrap();
+        assert_eq!(body.numbers[6], 0);
         assert_eq!(read(codec, &old, strict), Err((21, 0)));
         compared += 2;
     }

@@ -2,7 +2,6 @@
 
 use crate::fields::{fields, Fields};
 use crate::headers::{header_h, hex};
-use crate::image::Form;
 use crate::lines::listing as listing_of;
 use crate::random::Random;
 
@@ -63,6 +62,7 @@ fn counted(pairs: usize, keys: usize) -> Fields {
         })
         .collect();
     fields.keys = vec![[b"p".to_vec(), Vec::new(), hex("AA")]; keys];
+    fields.form = 0;
     fields
 }
 
@@ -77,7 +77,7 @@ pub fn the_listings_tables_have_limits(listing: impl List) -> u64 {
     let count = rows.len() as u64;
     for (pairs, keys, wanted) in rows {
         let fields = counted(pairs, keys);
-        let message = fields.image(Form::Today).bytes;
+        let message = fields.image().bytes;
         let wanted = wanted.unwrap_or_else(|| listing_of(&fields).into_bytes());
         assert_eq!(listing(&message), wanted, "{pairs} pairs, {keys} keys");
     }
@@ -90,9 +90,9 @@ pub fn the_programs_input_has_a_limit(listing: impl List, host_answer: impl Host
     let mut compared = 0;
     for more in [0, 1] {
         let mut fields = counted(3, 2);
-        let room = 65_536 + more - fields.image(Form::Today).bytes.len();
+        let room = 65_536 + more - fields.image().bytes.len();
         fields.keys[0][2].resize(1 + room, 0x55);
-        let mut message = fields.image(Form::Today).bytes;
+        let mut message = fields.image().bytes;
         let end = message.len();
         assert_eq!(end, 65_536 + more);
         message.extend([0xFF; 100]);

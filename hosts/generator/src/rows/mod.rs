@@ -5,6 +5,7 @@
 //! there for the separate implementation and for ours. It answers how many
 //! rows it held.
 
+pub mod forms;
 pub mod header_writes;
 pub mod headers;
 pub mod leaves;
@@ -31,8 +32,8 @@ pub type Written = Result<u64, Refused>;
 /// A body that was read.
 #[derive(Clone, Copy, Debug, PartialEq, Eq)]
 pub struct Body {
-    /// Version, type, suite, content type, IV length and frame length.
-    pub numbers: [u32; 6],
+    /// Version, type, suite, content type, IV length, frame length and form.
+    pub numbers: [u32; 7],
     pub id: Place,
     pub pairs: u32,
     pub keys: u32,
@@ -68,7 +69,7 @@ pub type Record = Result<([u8; 12], [u8; 16], u64), Refused>;
 #[derive(Clone, Copy, Debug)]
 pub struct Lent<'a> {
     /// In the order of [`Body::numbers`].
-    pub numbers: [u32; 6],
+    pub numbers: [u32; 7],
     pub id: &'a [u8],
     pub suite_data: &'a [u8],
     pub text: &'a [u8],

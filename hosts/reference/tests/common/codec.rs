@@ -19,6 +19,7 @@ fn body(body: reference::Body) -> Body {
             body.content_type,
             body.iv_length,
             body.frame_length,
+            body.form,
         ],
         id: place(body.id),
         pairs: body.pairs,

@@ -117,8 +117,8 @@ pub fn keys(buffer: &mut Buffer, max: Option<u64>) -> Result<Vec<Part>, No> {
 /// A body as read; suite data at (0, nothing) in version 1.
 #[derive(Debug, PartialEq, Eq)]
 pub struct Body {
-    /// Version, type, suite, content type, IV length, frame length.
-    pub numbers: [u32; 6],
+    /// Version, type, suite, content type, IV length, frame length, form.
+    pub numbers: [u32; 7],
     pub id: Part,
     pub pairs: Vec<Part>,
     pub keys: Vec<Part>,
@@ -148,7 +148,10 @@ pub fn body(buffer: &mut Buffer, only: u128, strict: bool, max: Option<u64>) -> 
     need(suite_version(suite).is_some(), 6)?;
     need(suite_version(suite) == Some(version), 7)?;
     let id = buffer.read(if version == 1 { 16 } else { 32 })?;
+    let from = buffer.start;
     let pairs = section(buffer, strict)?;
+    // An empty context takes 2 bytes today, and took 4.
+    let form = u128::from(pairs.is_empty() && buffer.start - from == 4);
     let keys = keys(buffer, max)?;
     let content_type = buffer.number(1)?;
     need(content_type == 1 || content_type == 2, 17)?;
@@ -172,6 +175,7 @@ pub fn body(buffer: &mut Buffer, only: u128, strict: bool, max: Option<u64>) -> 
         content_type,
         iv_length,
         frame_length,
+        form,
     ];
     Ok(Body {
         numbers: numbers.map(|number| number as u32),

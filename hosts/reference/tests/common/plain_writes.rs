@@ -96,14 +96,14 @@ pub fn write_keys(text: &[u8], table: &[u32]) -> Result<Vec<u8>, No> {
 
 /// `numbers` as in [`super::plain::Body`].
 pub fn write_body(
-    numbers: [u32; 6],
+    numbers: [u32; 7],
     id: &[u8],
     suite_data: &[u8],
     text: &[u8],
     pairs: &[u32],
     keys: &[u32],
 ) -> Result<Vec<u8>, No> {
-    let [version, message_type, suite, content_type, iv_length, frame_length] = numbers;
+    let [version, message_type, suite, content_type, iv_length, frame_length, form] = numbers;
     need(version == 1 || version == 2, 3)?;
     let first = version == 1;
     need(message_type == if first { 0x80 } else { 0 }, 5)?;
@@ -111,7 +111,11 @@ pub fn write_body(
     need(suites_version.is_some(), 6)?;
     need(suites_version == Some(u128::from(version)), 7)?;
     need(id.len() == if first { 16 } else { 32 }, 24)?;
-    let section = write_section(text, pairs)?;
+    let mut section = write_section(text, pairs)?;
+    if form != 0 {
+        need(pairs.is_empty(), 33)?;
+        section = vec![0, 2, 0, 0];
+    }
     let keys = write_keys(text, keys)?;
     need(content_type == 1 || content_type == 2, 17)?;
     need(iv_length == if first { 12 } else { 0 }, 19)?;

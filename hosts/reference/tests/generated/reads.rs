@@ -231,6 +231,7 @@ fn body(seed: u64, case: &BodyCase, coverage: &mut Coverage) {
         n.content_type,
         n.iv_length,
         n.frame_length,
+        n.form,
     ];
     assert_eq!(numbers, plain.numbers, "seed {seed}");
     assert_eq!(
@@ -250,15 +251,7 @@ fn body(seed: u64, case: &BodyCase, coverage: &mut Coverage) {
     assert_eq!(read.tail, plain.tail, "seed {seed}");
     if case.expected == Expected::Accepted {
         let fields = &case.fields;
-        let wanted = [
-            fields.version,
-            fields.message_type,
-            fields.suite,
-            fields.content_type,
-            fields.iv_length,
-            fields.frame_length,
-        ];
-        assert_eq!(numbers, wanted, "seed {seed}");
+        assert_eq!(numbers, fields.numbers(), "seed {seed}");
         assert_eq!(read.tail, case.end, "seed {seed}");
         assert_eq!(read.id.within(&case.message), Some(&fields.id[..]));
         assert_eq!(

@@ -1,0 +1,137 @@
+//! The records of writers as they cross the boundary, and the numbers that a
+//! body is written from, of which none is cut.
+
+use bafirolen_sys::*;
+use compare_header::compared;
+use compare_header::scale::seeds;
+use generator::body_write_cases::body_write_case;
+use generator::fields::Fields;
+use generator::only_cases::only_case;
+use generator::write_cases::write_section_case;
+
+/// The record of what was written or refused.
+fn written(answer: Result<u64, reference::Refusal>) -> BafirolenWritten {
+    match answer {
+        Ok(length) => BafirolenWritten {
+            number: 0,
+            position: 0,
+            length,
+        },
+        Err(refusal) => BafirolenWritten {
+            number: refusal.number.into(),
+            position: refusal.position,
+            length: 0,
+        },
+    }
+}
+
+#[test]
+fn writes() {
+    let mut count = 0;
+    for seed in seeds(50_000) {
+        let case = write_section_case(seed);
+        let (text, pairs) = (&case.lent.text, &case.lent.pairs);
+        let (mut ours, mut theirs) = (case.out.clone(), case.out);
+        // SAFETY: pointers and lengths are those of vectors, all apart.
+        let written = unsafe {
+            let (out, out_len) = (ours.as_mut_ptr(), ours.len());
+            let (table, len) = (pairs.as_ptr(), pairs.len());
+            bafirolen_write_aad_section(text.as_ptr(), text.len(), table, len, out, out_len)
+        };
+        let wanted = reference::write_aad_section(text, pairs, &mut theirs);
+        assert_eq!(written, self::written(wanted), "seed {seed}");
+        assert!(ours == theirs, "seed {seed}");
+        count += 1;
+    }
+    compared(count, "records of writes");
+}
+
+fn numbers(fields: &Fields) -> BafirolenNumbers {
+    let [version, message_type, suite, content_type, header_iv_length, frame_length, form] =
+        fields.numbers();
+    BafirolenNumbers {
+        version,
+        message_type,
+        suite,
+        content_type,
+        header_iv_length,
+        frame_length,
+        form,
+    }
+}
+
+/// A mark of a form may be any number, and any but 0 is old.
+#[test]
+fn bodies() {
+    let (mut count, mut marked) = (0, 0);
+    for seed in seeds(100_000) {
+        let case = body_write_case(seed);
+        let (fields, lent) = (&case.fields, &case.lent);
+        let (mut ours, mut theirs) = (case.out.clone(), case.out);
+        // SAFETY: pointers and lengths are those of vectors, all apart.
+        let written = unsafe {
+            bafirolen_write_header_body(
+                numbers(fields),
+                fields.id.as_ptr(),
+                fields.id.len(),
+                fields.suite_data.as_ptr(),
+                fields.suite_data.len(),
+                lent.text.as_ptr(),
+                lent.text.len(),
+                lent.pairs.as_ptr(),
+                lent.pairs.len(),
+                lent.keys.as_ptr(),
+                lent.keys.len(),
+                ours.as_mut_ptr(),
+                ours.len(),
+            )
+        };
+        let wanted = reference::write_header_body(
+            &fields.numbers().into(),
+            &fields.id,
+            &fields.suite_data,
+            &lent.text,
+            &lent.pairs,
+            &lent.keys,
+            &mut theirs,
+        );
+        assert_eq!(written, self::written(wanted), "seed {seed}");
+        assert!(ours == theirs, "seed {seed}");
+        marked += u64::from(wanted.is_ok() && fields.form > 1);
+        count += 1;
+    }
+    assert!(marked > 0, "no unknown mark was written");
+    compared(count, "records of bodies written");
+}
+
+/// A shortage has a position here too.
+#[test]
+fn only_authenticated() {
+    let mut count = 0;
+    for seed in seeds(50_000) {
+        let case = only_case(seed);
+        let (message, text, required) = (&case.message, case.text(), &case.required);
+        let (mut ours, mut theirs) = (case.out.clone(), case.out.clone());
+        // SAFETY: pointers and lengths are those of vectors, the output's apart
+        // from the others, which are only read.
+        let written = unsafe {
+            bafirolen_write_only_authenticated(
+                message.as_ptr(),
+                message.len(),
+                case.start,
+                text.as_ptr(),
+                text.len(),
+                required.as_ptr(),
+                required.len(),
+                ours.as_mut_ptr(),
+                ours.len(),
+            )
+        };
+        let wanted =
+            reference::write_only_authenticated(message, case.start, text, required, &mut theirs);
+        assert_eq!(written, self::written(wanted), "seed {seed}");
+        assert!(ours == theirs, "seed {seed}");
+        count += 1;
+    }
+    compared(count, "records of what is only authenticated");
+}
