@@ -28,6 +28,11 @@ use Rattle.fields.specs.declared.Form.{Form}
 use Rattle.body_write.proofs.Ends.{opening-long, closing-long, ends-fit}
 use Rattle.body_write.proofs.BodyChecks.{version-small, type-small, suite-small, content-small, iv-small, body-pairs-passed, body-pairs-few, body-keys-passed, id-long, data-long, tables-small}
 
+-- tables that passed are short enough
+module _ (n : BodyNumbers) (messageId suiteData text pairs keys : List ℕ) (c : Checked) (is : c ≡ checked (first (writing-header-body (body-to-write n messageId suiteData text pairs keys) .checks))) (e : c ≡ Passes) where
+  pub body-small : Small pairs keys
+  body-small = tables-small n messageId suiteData text pairs keys (stage-none _ c is e)
+
 module _ (n : BodyNumbers) (form : Form) (messageId suiteData text pairs keys : List ℕ) where
   abbrev opening : List ℕ
   opening = write-opening (eqb (n .version) 1) (n .version) (n .messageType) (n .suite) messageId
@@ -78,9 +83,6 @@ module _ (n : BodyNumbers) (form : Form) (messageId suiteData text pairs keys : 
 
   -- what checks that passed give
   module _ (c : Checked) (is : c ≡ checked (first (writing-header-body (body-to-write n messageId suiteData text pairs keys) .checks))) (e : c ≡ Passes) where
-    pub body-small : Small pairs keys
-    body-small = tables-small n messageId suiteData text pairs keys (stage-none _ c is e)
-
     pub body-ready : form ≡ form-named (n .form) → (s room : ℕ) → s ≡ body-size (n .version) (form-of form) pairs keys → s ≤ room → BodyReady n form messageId suiteData text pairs keys room
     body-ready g s room q h =
         let p = stage-none _ c is e in
