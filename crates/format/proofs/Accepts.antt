@@ -1,4 +1,4 @@
--- What today's writer accepts is what the readers' exactness asks of a value. Assumes nothing.
+-- What our writer accepts, given a mark, is what the readers' exactness asks of a value. Assumes nothing.
 use mathlib.Core.Path.{_≡_, refl, sym, ap, _∙_}
 use mathlib.Core.Bool.{Bool, true, false, not, cond, _&&_, _||_}
 use mathlib.Core.Option.{none}

@@ -6,11 +6,11 @@ use Prim.Native.Nat.{ℕ, _+_, _-_, _≤_}
 use native.Mathlib.Omega.{arith}
 use lib.Dec.{eqb}
 use lib.ListN.{length, drop, length-drop}
-use Rattle.format.specs.Read.{ReadResult, success, more-needed, error, Reader, go-on, _>>=_, _>>_, return, test, End, no-end, end-at, repeat, Answer, refused, answer, operation}
+use Rattle.format.specs.Read.{ReadResult, success, more-needed, error, Reader, _>>=_, _>>_, return, test, End, no-end, end-at, repeat, Answer, refused, answer, operation}
 use Rattle.format.specs.Serialize.{Part, read-uint, read-uint8, read-uint16, read-uint32, read-short-length-seq, same-bytes}
 use Rattle.format.specs.Shared.{read-message-format-version, read-esdk-suite-id, read-content-type, frame-fits}
 use Rattle.format.specs.Fields.{PairAt}
-use Rattle.format.specs.Context.{Mode, tolerant, strict, read-text, read-aad-pair, read-next-aad-pair, read-aad-by, read-aad, read-aad-of, read-aad-section, ContextAt, mark, with-mark, read-aad-section-into, look-up, find-value}
+use Rattle.format.specs.Context.{Mode, tolerant, strict, read-text, read-aad-pair, read-next-aad-pair, read-aad-by, read-aad, read-aad-of, read-aad-section, ContextAt, with-mark, read-aad-section-into, look-up, find-value}
 use Rattle.format.specs.Keys.{Max, read-encrypted-data-key, read-encrypted-data-keys-section, read-encrypted-data-keys-section-into}
 use Rattle.format.specs.Body.{Which, either, v1-only, v2-only, read-opening-of, read-opening, read-closing-of, read-closing, Opening, Request, after-context, after-opening, read-body}
 use Rattle.format.specs.Auth.{read-header-auth-tag-of, read-header-auth-tag}
@@ -18,7 +18,7 @@ use Rattle.format.specs.OnlyAuthenticated.{fitting, write-only-authentic
 use Rattle.format.specs.Refusals.{section-refusals, context-refusals, find-refusals, only-authenticated-refusals, opening-refusals, reserved-refusals, frame-refusals, closing-refusals, keys-refusals, body-refusals, auth-refusals, Refusal, RefusesBy, Refusals}
 use Rattle.format.proofs.Tests.{is-eqb}
 use Rattle.format.proofs.Members.{has, has-neither, no-member}
-use Rattle.format.proofs.ListedLaws.{Fine, Listed, listed-as, also, bind-listed, then-listed, return-listed, sure-listed, test-listed, held-refusals, held-listed, read-listed, repeat-listed, framed-listed, Gives, return-gives, bind-gives, passed-listed, passed-gives, given-listed}
+use Rattle.format.proofs.ListedLaws.{Fine, Listed, listed-as, also, bind-listed, then-listed, return-listed, sure-listed, test-listed, held-refusals, held-listed, read-listed, repeat-listed, framed-listed, Gives, return-gives, bind-gives, passed-listed, passed-gives, given-listed, marked-listed}
 use Rattle.format.proofs.Messages.{cases}
 
 -- the leaves
@@ -198,16 +198,6 @@ after-context-listed : (q : Request) (o : Opening) → Opened (q .which) o → (
 unfolding after-context closing-refusals
 after-context-listed q o h x =
     bind-listed (keys-listed (q .max)) (λ ks. bind-listed (closing-listed (q .which) o h) (λ c. frames-listed (q .frames) (frame-fits (c .contentType) (c .frameLength)) (tables-listed _ _ _)))
-
--- a mark refuses nothing
-marked-listed : {ks : List ℕ} {section : Reader (List PairAt)} → Listed ks section → Listed ks (with-mark section)
-unfolding with-mark
-marked-listed {ks} {section} h = record { fine = λ l s. by s (s + length l) (section l s) (h .fine l s) }
-  where
-    by : (s n : ℕ) (x : ReadResult (List PairAt)) → Fine ks n x → Fine ks n (go-on x (mark s))
-    by s n (success ps l t) f = f
-    by s n (more-needed p) f = f
-    by s n (error k) f = f
 
 -- whatever its section is read by
 pub body-listed-by : (q : Request) {ks : List ℕ} {section : Reader (List PairAt)} → Listed ks section

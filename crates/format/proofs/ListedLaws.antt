@@ -9,6 +9,8 @@ use lib.Dec.{leb, eqb}
 use lib.ListN.{length, length-drop}
 use Rattle.format.specs.Read.{ReadResult, success, more-needed, error, Reader, go-on, _>>=_, _>>_, return, test, End, no-end, end-at, held, repeat, framed}
 use Rattle.format.specs.Serialize.{read}
+use Rattle.format.specs.Fields.{PairAt}
+use Rattle.format.specs.Context.{mark, with-mark}
 use Rattle.format.proofs.Tests.{is-leb, is-nleb}
 use Rattle.format.proofs.Members.{has-all, members}
 use Rattle.format.proofs.Exact.{framed-fits, framed-short, more-is-no-success, error-is-no-success}
@@ -155,3 +157,13 @@ module _ {A B : Type 0} where
       go l s (success a l′ t) e h = more js (ks ++ js) (λ k z. Memᴰ·append-right ks z) (s + length l) (f a l′ t) (rw h at (hf a (hg .given l s a l′ t e) .fine l′ t))
       go l s (more-needed p) e h = h
       go l s (error k) e h = Memᴰ·append-left js h
+
+-- a mark refuses nothing
+pub marked-listed : {ks : List ℕ} {section : Reader (List PairAt)} → Listed ks section → Listed ks (with-mark section)
+unfolding with-mark
+marked-listed {ks} {section} h = record { fine = λ l s. by s (s + length l) (section l s) (h .fine l s) }
+  where
+    by : (s n : ℕ) (x : ReadResult (List PairAt)) → Fine ks n x → Fine ks n (go-on x (mark s))
+    by s n (success ps l t) f = f
+    by s n (more-needed p) f = f
+    by s n (error k) f = f

@@ -11,7 +11,8 @@ use lib.Seq.{take-append-seam, drop-append-seam}
 use Rattle.format.specs.Shared.{by, one-or-two, frame-fits}
 use Rattle.format.specs.Read.{Answer, accepted, refused, at, addressable, operation}
 use Rattle.format.specs.Serialize.{read, read-at, write-uint16, write-uint32, images}
-use Rattle.format.specs.Fields.{Pair, EncryptedDataKey}
+use Rattle.format.specs.Fields.{Form, today, old, Pair, EncryptedDataKey}
+use Rattle.format.specs.Checks.{fits-form}
 use Rattle.format.specs.Context.{write-aad-pair, write-aad-pairs}
 use Rattle.format.specs.Keys.{write-encrypted-data-key, write-encrypted-data-keys}
 use Rattle.format.specs.Body.{Which, either, v1-only, v2-only, Opening, read-opening, tests-frames}
@@ -32,6 +33,10 @@ use Rattle.format.proofs.Filled.{pair-table, key-table}
 use Rattle.format.proofs.Lengths.{lengths}
 use Rattle.format.proofs.FirstBody.{opening-goes, first-refusal, none-applied}
 use Rattle.format.proofs.Find.{same-equal, equal-same, seen-has, has-seen}
+
+mark-fits : (form : Form) (pairs : ℕ) → Decides (fits-form form pairs) (form ≡ old → pairs ≡ 0)
+mark-fits today pairs = record { then-holds = λ e q. let z : _≡_ {A = ℕ} 0 1 = cc in absurd (omega arith); holds-then = λ h. refl }
+mark-fits old pairs = record { then-holds = λ e q. is-eqb pairs 0 e; holds-then = λ h. eqb-is pairs 0 (h refl) }
 
 one-two : (x : ℕ) → Decides (one-or-two x) ((x ≡ 1) ⊎ (x ≡ 2))
 one-two x =
@@ -152,6 +157,7 @@ pinned =
       one-two = one-two;
       frames = frames;
       frames-tested = frames-tested;
+      mark-fits = mark-fits;
       reaches = reaches;
       maximum = λ n max. record { then-holds = is-leb n max; holds-then = leb-is n max };
       no-maximum = λ n. refl;

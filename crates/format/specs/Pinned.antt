@@ -13,11 +13,11 @@ use Rattle.format.specs.Read.{at, addressable}
 use Rattle.format.specs.Serialize.{read, read-at, images, every, number, write-uint16, write-uint32, same-bytes}
 use Rattle.format.specs.Utf8.{Range, has, rows, valid-utf8-seq}
 use Rattle.format.specs.Shared.{by, one-or-two, SuiteRow, row, suites, suite-version, known, frame-fits}
-use Rattle.format.specs.Fields.{Pair, PairAt, pair-of, pair-places, EncryptedDataKey, EncryptedDataKeyAt, key-of, key-places}
+use Rattle.format.specs.Fields.{Form, old, Pair, PairAt, pair-of, pair-places, EncryptedDataKey, EncryptedDataKeyAt, key-of, key-places}
 use Rattle.format.specs.Context.{seen, linear-length, write-aad-pairs}
 use Rattle.format.specs.Keys.{Max, no-max, at-most, within, write-encrypted-data-keys}
 use Rattle.format.specs.Body.{Which, either, tests-frames}
-use Rattle.format.specs.Checks.{Check, first}
+use Rattle.format.specs.Checks.{Check, first, fits-form}
 use Rattle.format.specs.Lent.{bytes-at, filled, pair-numbers, key-numbers, items, pair-in, key-in, table-checks}
 use Rattle.format.specs.Places.{number8}
 use Rattle.format.specs.First.{NoneApplies, operation-list, opening-list}
@@ -93,6 +93,8 @@ pub record Pinned : Type 0 where
   pub frames : (content frame : ℕ) → Decides (frame-fits content frame) (((content ≡ 1) × (frame ≡ 0)) ⊎ ((content ≡ 2) × (0 < frame)))
   -- and only the either-version reader tests it
   pub frames-tested : (which : Which) → Decides (tests-frames which) (which ≡ either)
+  -- a mark fits a record unless it is old and there is a pair
+  pub mark-fits : (form : Form) (pairs : ℕ) → Decides (fits-form form pairs) (form ≡ old → pairs ≡ 0)
   -- the context section that a body reader reaches is 00 02 00 00: no refusal listed before the section's applies, and those are the
   -- bytes that stand 20 or 35 behind the start
   pub reaches : (which : Which) (m : List ℕ) (s : ℕ)
