@@ -50,7 +50,7 @@ module _ (n : BodyNumbers) (form : Form) (messageId suiteData text pairs keys : 
   unfolding body-to-write writing-header-body fields-to-write image writing-encrypted-data-keys-section write-opening write-closing
   image-is e = rw e (ap (λ (l : List ℕ). opening ++ l) (sym (append-assoc (section-in (form-of (form-named (n .form))) (pairs-in text pairs)) (writing-encrypted-data-keys-section text keys .image) closing)))
 
-  module _ (room : ℕ) (r : BodyReady n form messageId suiteData text pairs keys room) where
+  module _ (size room : ℕ) (r : BodyReady n form size messageId suiteData text pairs keys room) where
     opens : length opening ≡ by (n .version) 20 35
     opens = opening-long (eqb (n .version) 1) (n .version) (n .messageType) (n .suite) messageId (r .idLong)
 
@@ -66,24 +66,26 @@ module _ (n : BodyNumbers) (form : Form) (messageId suiteData text pairs keys : 
     image-long : length (writing-header-body (body-to-write n messageId suiteData text pairs keys) .image) ≡ body-size (n .version) (form-of form) pairs keys
     image-long = rw (image-is (r .named), length-append, length-append) (omega (arith, opens, closes, holds))
 
-  pub body-stored : (out : List ℕ) → BodyReady n form messageId suiteData text pairs keys (length out) → (o₁ o₂ o₃ : List ℕ) (at s t : ℕ)
-      → at ≡ by (n .version) 20 35 → s ≡ aad-section-size (form-of form) pairs → t ≡ keys-section-size keys
+  pub body-stored : (size : ℕ) (out : List ℕ) → BodyReady n form size messageId suiteData text pairs keys (length out) → (o₁ o₂ o₃ : List ℕ) (at c : ℕ)
+      → at ≡ by (n .version) 20 35 → c ≡ by (n .version) 10 37
       → o₁ ≡ stored out 0 (write-opening (eqb (n .version) 1) (n .version) (n .messageType) (n .suite) messageId)
       → o₂ ≡ stored o₁ at (section-in (form-of form) (pairs-in text pairs) ++ writing-encrypted-data-keys-section text keys .image)
-      → o₃ ≡ stored (take (length o₂ - (at + (s + t))) (drop (at + (s + t)) o₂)) 0 (write-closing (eqb (n .version) 1) (n .contentType) (n .headerIvLength) (n .frameLength) suiteData)
-      → putMid (at + (s + t)) (length o₂ - (at + (s + t))) o₂ o₃ ≡ stored out 0 (writing-header-body (body-to-write n messageId suiteData text pairs keys) .image)
-  body-stored out r o₁ o₂ o₃ at s t ea es et q₁ q₂ q₃ =
-      let a = opens (length out) r in
-      let b = holds (length out) r in
+      → o₃ ≡ stored (take (length o₂ - (size - c)) (drop (size - c) o₂)) 0 (write-closing (eqb (n .version) 1) (n .contentType) (n .headerIvLength) (n .frameLength) suiteData)
+      → putMid (size - c) (length o₂ - (size - c)) o₂ o₃ ≡ stored out 0 (writing-header-body (body-to-write n messageId suiteData text pairs keys) .image)
+  body-stored size out r o₁ o₂ o₃ at c ea ec q₁ q₂ q₃ =
+      let w = r .whole in
+      let a = opens size (length out) r in
+      let b = holds size (length out) r in
+      let z = closes size (length out) r in
       let l₁ = still-long out o₁ 0 opening q₁ (omega (arith, r .fits)) in
       let l₂ = still-long o₁ o₂ at sections q₂ (omega (arith, r .fits)) in
-      let last = stored-tail o₂ o₃ closing (at + (s + t)) (omega (arith, r .fits)) q₃ in
-      let two = chain o₁ o₂ _ at (at + (s + t)) sections closing q₂ (omega arith) last (omega (arith, r .fits)) in
+      let last = stored-tail o₂ o₃ closing (size - c) (omega (arith, r .fits)) q₃ in
+      let two = chain o₁ o₂ _ at (size - c) sections closing q₂ (omega arith) last (omega (arith, r .fits)) in
       chain out o₁ _ 0 at opening (sections ++ closing) q₁ (omega arith) two (omega (arith, r .fits)) ∙ rw (image-is (r .named))
 
   -- what checks that passed give
   module _ (c : Checked) (is : c ≡ checked (first (writing-header-body (body-to-write n messageId suiteData text pairs keys) .checks))) (e : c ≡ Passes) where
-    pub body-ready : form ≡ form-named (n .form) → (s room : ℕ) → s ≡ body-size (n .version) (form-of form) pairs keys → s ≤ room → BodyReady n form messageId suiteData text pairs keys room
+    pub body-ready : form ≡ form-named (n .form) → (s room : ℕ) → s ≡ body-size (n .version) (form-of form) pairs keys → s ≤ room → BodyReady n form s messageId suiteData text pairs keys room
     body-ready g s room q h =
         let p = stage-none _ c is e in
         let i = id-long n messageId suiteData text pairs keys p in
@@ -104,8 +106,9 @@ module _ (n : BodyNumbers) (form : Form) (messageId suiteData text pairs keys : 
           opening = f .0;
           ten = f .1;
           closing = f .2;
-          fits = rw q at h;
+          whole = q;
+          fits = h;
         }
 
     pub body-length : form ≡ form-named (n .form) → (s : ℕ) → s ≡ body-size (n .version) (form-of form) pairs keys → s ≡ length (writing-header-body (body-to-write n messageId suiteData text pairs keys) .image)
-    body-length g s q = q ∙ sym (image-long s (body-ready g s s q (omega arith)))
+    body-length g s q = q ∙ sym (image-long s s (body-ready g s s q (omega arith)))

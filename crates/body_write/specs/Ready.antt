@@ -27,7 +27,7 @@ pub record SectionsReady (form : Mark) (text pairTable keyTable : List ℕ) (at 
   pub fits : at + (aad-section-size form pairTable + keys-section-size keyTable) ≤ room
 
 -- what the stores of a body ask: all that was tested of numbers, lengths and places, and room
-pub record BodyReady (n : BodyNumbers) (form : Form) (messageId suiteData text pairTable keyTable : List ℕ) (room : ℕ) : Type 0 where
+pub record BodyReady (n : BodyNumbers) (form : Form) (size : ℕ) (messageId suiteData text pairTable keyTable : List ℕ) (room : ℕ) : Type 0 where
   pub named : form ≡ form-named (n .form)
   pub version : n .version < 256
   pub messageType : n .messageType < 256
@@ -42,4 +42,5 @@ pub record BodyReady (n : BodyNumbers) (form : Form) (messageId suiteData text p
   pub opening : 4 + length messageId ≤ by (n .version) 20 35 + 10
   pub ten : 10 ≤ by (n .version) 10 37
   pub closing : 5 + length suiteData ≤ by (n .version) 10 37
-  pub fits : body-size (n .version) (form-of form) pairTable keyTable ≤ room
+  pub whole : size ≡ body-size (n .version) (form-of form) pairTable keyTable
+  pub fits : size ≤ room

@@ -104,6 +104,7 @@ fn put_sections(form: Form, text: &[u8], pairs: &[u32], keys: &[u32], out: &mut 
 fn put_body(
     n: BodyNumbers,
     form: Form,
+    size: usize,
     messageId: &[u8],
     suiteData: &[u8],
     text: &[u8],
@@ -111,13 +112,13 @@ fn put_body(
     keys: &[u32],
     out: &mut [u8],
 )
-    requires { ⌜ BodyReady n form (now messageId) (now suiteData) (now text) (now pairs) (now keys) (length (now out)) ⌝ }
+    requires { ⌜ BodyReady n form size (now messageId) (now suiteData) (now text) (now pairs) (now keys) (length (now out)) ⌝ }
     ensures { λ _. ⌜ now (out .exit) ≡ stored (now (out .entry)) 0 (writing-header-body (body-to-write n (now (messageId .entry)) (now (suiteData .entry)) (now (text .entry)) (now (pairs .entry)) (now (keys .entry))) .image) ⌝ }
 {
     opening::put_opening(n.version, n.messageType, n.suite, messageId, out);
     let at = opening::opening_size(n.version);
     put_sections(form, text, pairs, keys, out, at);
-    let end = at + (aad_section_size(form, pairs) + keys_section_size(keys));
+    let end = size - closing::closing_size(n.version);
     closing::put_closing(
         n.version,
         n.contentType,
@@ -149,6 +150,16 @@ pub fn write_header_body(
     if out.len() < size {
         return refuses(OUTPUT_TOO_SHORT);
     }
-    put_body(numbers, form, messageId, suiteData, text, pairs, keys, out);
+    put_body(
+        numbers,
+        form,
+        size,
+        messageId,
+        suiteData,
+        text,
+        pairs,
+        keys,
+        out,
+    );
     WriteAnswer::Written(size)
 }
