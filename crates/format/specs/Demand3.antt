@@ -95,8 +95,8 @@ pub record Sentence1 (max : Max) (pairRoom keyRoom : ℕ) (m : List ℕ) (s : �
   pub farther : 4294967295 < s → operation (read-header-body either tolerant max pairRoom keyRoom) m s ≡ refused 1 0
 
 -- SENTENCE 2. On every message, with the same start, tables and maximum, the strict reader answers as the tolerant one, alike in
--- number, position, fields with their places, tail and tables afterwards, except that it refuses 21 where the context section it
--- reaches is 00 02 00 00. (It holds of the readers of one version too.)
+-- number, position, fields with their places, mark, tail and tables afterwards, except that it refuses 21 where the context section
+-- it reaches is 00 02 00 00. (It holds of the readers of one version too.)
 pub record Sentence2 (which : Which) (max : Max) (pairRoom keyRoom : ℕ) (m : List ℕ) (s : ℕ) : Type 0 where
   pub answers : operation (read-header-body which strict max pairRoom keyRoom) m s
       ≡ cond (reaches-old which m s) (refused 21 0) (operation (read-header-body which tolerant max pairRoom keyRoom) m s)
@@ -136,7 +136,7 @@ pub record Images (f : Fields) : Type 0 where
   pub old-has : f .pairs ≡ [] → image-by the-old f ≡ front ++ (0x00 ∷ 0x02 ∷ 0x00 ∷ 0x00 ∷ back)
   -- the front is what stands before the context section
   pub front-long : Accepts today f → length front ≡ by (f .version) 20 35
-  -- 33 is never a writer's, since each is given a mark that fits: what one accepts the other does
+  -- 33 applies to neither, since each is given a mark that fits: what one accepts the other does
   pub same-accepted : (v w : Writer) → Accepts (mark-by v (f .pairs)) f → Accepts (mark-by w (f .pairs)) f
 
 pub record Sentence4 (w : BodyToWrite) (out : List ℕ) : Type 0 where
