@@ -1,7 +1,6 @@
 -- The ways out of 33, one law each. Assumes nothing.
 use Prim.Native.Nat.{ℕ}
-use mathlib.Core.Path.{_≡_, refl, _∙_}
-use mathlib.Core.Option.{none, some}
+use mathlib.Core.Path.{_≡_, _∙_}
 use borrow.Author.Tests.{eq-eqb, ne-eqb}
 use Rattle.format.specs.Checks.{first, form-checks}
 use Rattle.fields.specs.Codes.{form-of}

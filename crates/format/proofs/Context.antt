@@ -78,6 +78,10 @@ pub length-aad : (ps : List Pair) → length (write-aad ps) ≡ 2 + linear-lengt
 unfolding write-aad
 length-aad ps = rw (length-append (write-uint16 (length ps)) (write-aad-pairs ps), length-uint16, length-pairs ps) refl
 
+pub length-expanded : (ps : List Pair) → length (write-expanded-aad-section ps) ≡ 4 + linear-length ps
+unfolding write-expanded-aad-section
+length-expanded ps = rw (length-append (write-uint16 (2 + linear-length ps)) (write-aad ps), length-uint16, length-aad ps) (omega arith)
+
 pub linear-length-snoc : (acc : List Pair) (p : Pair) → linear-length (acc ++ (p ∷ [])) ≡ linear-length acc + pair-length p
 unfolding sum
 linear-length-snoc [] p = omega arith

@@ -23,7 +23,7 @@ module _ (m table : List ℕ) where
   behind : (p : Part) (l : List ℕ) (at : ℕ) → drop at table ≡ place p ++ l → drop (at + 2) table ≡ l
   behind p l at e = sym (drop-drop 2 at table) ∙ ap (drop 2) e
 
-  pairs-there : (ps : List PairAt) (l : List ℕ) (at : ℕ) → Each (Held m) (images pair-places ps) → drop at table ≡ pair-numbers ps ++ l
+  pub pairs-there : (ps : List PairAt) (l : List ℕ) (at : ℕ) → Each (Held m) (images pair-places ps) → drop at table ≡ pair-numbers ps ++ l
       → items (pair-in m table) 4 (length ps) at ≡ map pair-of ps
   unfolding images items
   pairs-there [] l at h e = refl
@@ -32,7 +32,7 @@ module _ (m table : List ℕ) where
       let e₂ : drop (at + 4) table ≡ pair-numbers ps ++ l = sym (drop-drop 4 at table) ∙ ap (drop 4) e in
       rw (part-there (p .key) _ at k e, part-there (p .value) _ (at + 2) v e₁, pairs-there ps l (at + 4) h e₂) refl
 
-  keys-there : (ks : List EncryptedDataKeyAt) (l : List ℕ) (at : ℕ) → Each (Held m) (images key-places ks) → drop at table ≡ key-numbers ks ++ l
+  pub keys-there : (ks : List EncryptedDataKeyAt) (l : List ℕ) (at : ℕ) → Each (Held m) (images key-places ks) → drop at table ≡ key-numbers ks ++ l
       → items (key-in m table) 6 (length ks) at ≡ map key-of ks
   unfolding images items
   keys-there [] l at h e = refl

@@ -1,20 +1,20 @@
 -- A section is marked by the form that it stands in, and is then read exactly as it is written by that mark. Assumes nothing.
-use mathlib.Core.Path.{_≡_, refl, sym, ap, _∙_}
-use mathlib.Core.Bool.{Bool, true, false, cond}
+use mathlib.Core.Path.{_≡_, refl, ap, _∙_}
+use mathlib.Core.Bool.{true, cond}
 use mathlib.Core.List.{List, [], _∷_, _++_}
-use Prim.Native.Nat.{ℕ, _+_, _≤_}
+use Prim.Native.Nat.{ℕ, _+_}
 use native.Mathlib.Omega.{arith}
 use lib.Dec.{eqb}
-use lib.ListN.{length, length-append}
-use Rattle.format.specs.Read.{ReadResult, success, more-needed, error, Reader, go-on}
-use Rattle.format.specs.Serialize.{Bytes, write-uint16, sum}
+use lib.ListN.{length}
+use Rattle.format.specs.Read.{ReadResult, success, more-needed, error, go-on}
+use Rattle.format.specs.Serialize.{Bytes, sum}
 use Rattle.format.specs.Fields.{Form, today, old, Pair, PairAt}
-use Rattle.format.specs.Context.{Mode, linear-length, write-aad, write-expanded-aad-section, write-aad-section, section-in, read-aad-section, ContextAt, form-between, mark, with-mark}
+use Rattle.format.specs.Context.{Mode, write-expanded-aad-section, write-aad-section, section-in, read-aad-section, ContextAt, form-between, mark, with-mark}
 use Rattle.format.specs.Checks.{fits-form}
 use Rattle.format.proofs.Tests.{is-eqb, neqb-is, eqb-shift}
 use Rattle.format.proofs.Exact.{Took, Exact, more-is-no-success, error-is-no-success}
 use Rattle.format.proofs.Serialize.{length-uint16}
-use Rattle.format.proofs.Context.{Context, ContextOk, context-bytes, context-at, both-allow, length-aad}
+use Rattle.format.proofs.Context.{Context, ContextOk, context-bytes, context-at, both-allow, length-expanded}
 use Rattle.format.proofs.Section.{section-exact}
 
 -- a context by its own mark, which fits it
@@ -33,13 +33,9 @@ between-is : (s n : ℕ) → form-between s (s + n) ≡ form-of n
 between-is s n = rw (eqb-shift s n 4) refl
 
 -- a pair takes four bytes or more
-expanded-length : (ps : List Pair) → length (write-expanded-aad-section ps) ≡ 4 + linear-length ps
-unfolding write-expanded-aad-section
-expanded-length ps = let e = length-append (write-uint16 (2 + linear-length ps)) (write-aad ps) in let d = length-aad ps in let u = length-uint16 (2 + linear-length ps) in omega arith
-
 longer : (p : Pair) (ps : List Pair) → form-of (length (write-expanded-aad-section (p ∷ ps))) ≡ today
 unfolding sum
-longer p ps = let e = expanded-length (p ∷ ps) in rw (neqb-is (length (write-expanded-aad-section (p ∷ ps))) 4 (λ q. omega arith)) refl
+longer p ps = let e = length-expanded (p ∷ ps) in rw (neqb-is (length (write-expanded-aad-section (p ∷ ps))) 4 (λ q. omega arith)) refl
 
 -- a context that is marked old has no pair
 pub old-has-none : {C : Type 0} (p : Pair) (ps : List Pair) → fits-form old (length (p ∷ ps)) ≡ true → C
@@ -47,10 +43,10 @@ old-has-none p ps e = let z = is-eqb (length (p ∷ ps)) 0 e in absurd (omega ar
 
 -- so a mark that fits is told by how long the section is
 told : (form : Form) (ps : List Pair) → fits-form form (length ps) ≡ true → form-of (length (section-in form ps)) ≡ form
-unfolding write-aad-section write-expanded-aad-section sum
+unfolding write-aad-section sum
 told today [] e = rw (length-uint16 0) refl
 told today (p ∷ ps) e = longer p ps
-told old [] e = rw (expanded-length []) refl
+told old [] e = rw (length-expanded []) refl
 told old (p ∷ ps) e = old-has-none p ps e
 
 -- the mark of a section, whichever form its pairs were to be written in

@@ -2,9 +2,8 @@
 -- not; and those are told by whether the section reached is 00 02 00 00. Assumes nothing.
 use mathlib.Core.Path.{_≡_, refl, sym, ap, _∙_}
 use mathlib.Core.Bool.{Bool, true, false, cond}
-use mathlib.Core.List.{List, [], _∷_, _++_}
-use Prim.Native.Nat.{ℕ, _+_}
-use native.Mathlib.Omega.{arith}
+use mathlib.Core.List.{List, [], _∷_}
+use Prim.Native.Nat.{ℕ}
 use lib.ListN.{length, drop}
 use Rattle.format.specs.Read.{Answer, accepted, refused, operation}
 use Rattle.format.specs.Serialize.{Bytes}
@@ -12,15 +11,14 @@ use Rattle.format.specs.Fields.{Form, today, old, Pair, HeaderBody}
 use Rattle.format.specs.Context.{Mode, tolerant, strict}
 use Rattle.format.specs.Keys.{Max}
 use Rattle.format.specs.Body.{Which, Request, request, tests-frames, read-body, read-header-body}
-use Rattle.format.specs.Demand3.{reaches-old, Marks}
-use Rattle.format.proofs.Exact.{Took, puts}
-use Rattle.format.proofs.Body.{Sent, BodyOk, sent-bytes, body-at, body-exact}
-use Rattle.format.proofs.Messages.{accepted-took}
-use Rattle.format.proofs.Strict.{sentence-2}
 use Rattle.format.specs.Checks.{fits-form}
+use Rattle.format.specs.Demand3.{reaches-old, Marks}
 use Rattle.format.specs.Sections.{Allowed}
+use Rattle.format.proofs.Exact.{Took, puts}
 use Rattle.format.proofs.Marked.{old-has-none}
-use Rattle.format.proofs.Messages.{operation-here, cases, refused-is-no-accepted}
+use Rattle.format.proofs.Body.{Sent, BodyOk, sent-bytes, body-at, body-exact}
+use Rattle.format.proofs.Messages.{operation-here, cases, refused-is-no-accepted, accepted-took}
+use Rattle.format.proofs.Strict.{sentence-2}
 
 -- a mark that fits, with and without a pair, and strictly
 never-old : (form : Form) (ps : List Pair) → fits-form form (length ps) ≡ true → Allowed strict form ps → form ≡ today
@@ -40,29 +38,24 @@ module _ (which : Which) (max : Max) (pairRoom keyRoom : ℕ) (m : List ℕ) (s 
   abbrev said : Mode → Answer HeaderBody
   said mode = operation (read-header-body which mode max pairRoom keyRoom) m s
 
-  -- what was read, as a value with its mark
-  record Read (mode : Mode) (b : HeaderBody) (t : ℕ) : Type 0 where
-    value : Sent
-    good : BodyOk (asks mode) value
-    is : b ≡ body-at s value
-    after : List ℕ
-    bytes : drop s m ≡ sent-bytes value ++ after
-    end : t ≡ s + length (sent-bytes value)
+  -- what was read: a value, and the bytes behind its image
+  abbrev Read : Mode → HeaderBody → ℕ → Type 0
+  Read mode b t = (l : List ℕ) × Took (BodyOk (asks mode)) sent-bytes body-at (drop s m) s b l t
 
   read : (mode : Mode) (b : HeaderBody) (t : ℕ) → said mode ≡ accepted b t → Read mode b t
   unfolding read-header-body
-  read mode b t e = let (l, x) = accepted-took (body-exact (asks mode)) m s hb b t e in record { value = x .value; good = x .good; is = x .placed; after = l; bytes = x .split; end = x .tail }
+  read mode b t e = accepted-took (body-exact (asks mode)) m s hb b t e
 
-  form-is : (mode : Mode) (b : HeaderBody) (t : ℕ) (x : Read mode b t) → b .form ≡ x .value .form
-  form-is mode b t x = ap (λ (y : HeaderBody). y .form) (x .is)
+  form-is : (mode : Mode) (b : HeaderBody) (t : ℕ) (x : Read mode b t) → b .form ≡ x .1 .value .form
+  form-is mode b t x = ap (λ (y : HeaderBody). y .form) (x .1 .placed)
 
   with-a-pair : (mode : Mode) (b : HeaderBody) (t : ℕ) → Read mode b t → (b .pairs ≡ [] → ⊥) → b .form ≡ today
   unfolding puts
   with-a-pair mode b t x h =
-      form-is mode b t x ∙ paired (x .value .form) (x .value .fields .pairs) (x .good .context .fits) (λ e. h (ap (λ (y : HeaderBody). y .pairs) (x .is) ∙ rw e refl))
+      form-is mode b t x ∙ paired (x .1 .value .form) (x .1 .value .fields .pairs) (x .1 .good .context .fits) (λ e. h (ap (λ (y : HeaderBody). y .pairs) (x .1 .placed) ∙ rw e refl))
 
   strictly : (b : HeaderBody) (t : ℕ) → Read strict b t → b .form ≡ today
-  strictly b t x = form-is strict b t x ∙ never-old (x .value .form) (x .value .fields .pairs) (x .good .context .fits) (x .good .context .section .allowed)
+  strictly b t x = form-is strict b t x ∙ never-old (x .1 .value .form) (x .1 .value .fields .pairs) (x .1 .good .context .fits) (x .1 .good .context .section .allowed)
 
   -- marked today's, it is accepted by the strict reader too
   today-strict : (x : Sent) → x .form ≡ today → BodyOk (asks tolerant) x → BodyOk (asks strict) x
@@ -81,9 +74,9 @@ module _ (which : Which) (max : Max) (pairRoom keyRoom : ℕ) (m : List ℕ) (s 
   accepted-strict : (b : HeaderBody) (t : ℕ) → said tolerant ≡ accepted b t → Read tolerant b t → b .form ≡ today → said strict ≡ accepted b t
   unfolding read-header-body
   accepted-strict b t e x f =
-      let ok = today-strict (x .value) (sym (form-is tolerant b t x) ∙ f) (x .good) in
+      let ok = today-strict (x .1 .value) (sym (form-is tolerant b t x) ∙ f) (x .1 .good) in
       cases (read-body (asks tolerant)) m s (λ no. refused-is-no-accepted (sym no ∙ e)) (λ h k is.
-      rw (operation-here (read-body (asks strict)) m s h k, x .bytes, body-exact (asks strict) .complete (x .value) s (x .after) ok, x .is, x .end) refl)
+      rw (operation-here (read-body (asks strict)) m s h k, x .1 .split, body-exact (asks strict) .complete (x .1 .value) s (x .0) ok, x .1 .placed, x .1 .tail) refl)
 
   by-the-section : (mode : Mode) (b : HeaderBody) (t : ℕ) → said mode ≡ accepted b t → b .form ≡ cond (reaches-old which m s) old today
   by-the-section mode b t e = by mode (reaches-old which m s) refl e (b .form) refl

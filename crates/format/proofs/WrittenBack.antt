@@ -4,44 +4,36 @@ use mathlib.Core.Path.{_≡_, refl, sym, ap, _∙_}
 use mathlib.Core.Bool.{true}
 use mathlib.Core.Option.{none}
 use mathlib.Core.List.{List, [], _∷_, _++_, map, append-nil}
-use Prim.Native.Nat.{ℕ, zero, suc, _+_, _*_, _-_, _/_, _%_, _≤_, _<_}
+use Prim.Native.Nat.{ℕ, _+_, _*_, _-_, _/_, _%_, _≤_}
 use native.Mathlib.Omega.{arith}
-use lib.ListN.{length, getD, take, drop, length-append, length-drop}
+use native.Mathlib.Nat.{zero-mul, suc-mul, add-comm}
+use lib.ListN.{length, take, drop, length-append, length-drop}
 use lib.Seq.{drop-drop, take-append-seam}
-use Rattle.format.specs.Read.{accepted, operation}
-use Rattle.format.specs.Serialize.{Bytes, Part, images, every}
-use Rattle.format.specs.Fields.{PairAt, EncryptedDataKeyAt, Fields, HeaderBody, pair-of, key-of, fields-of, pair-places, key-places}
-use Rattle.format.specs.Context.{Mode}
-use Rattle.format.specs.Keys.{Max}
+use Rattle.format.specs.Read.{accepted}
+use Rattle.format.specs.Serialize.{Part, images, every}
+use Rattle.format.specs.Fields.{PairAt, EncryptedDataKeyAt, HeaderBody, pair-of, key-of, fields-of, pair-places, key-places}
 use Rattle.format.specs.Body.{either, Request, request, read-header-body, image}
 use Rattle.format.specs.Checks.{first}
-use Rattle.format.specs.Lent.{bytes-at, filled, place, pair-numbers, key-numbers, items, here, in-text, pairs-in, keys-in, table-checks, pair-table-after, key-table-after, BodyToWrite, fields-to-write, writing-header-body, written, output-after}
+use Rattle.format.specs.Lent.{bytes-at, filled, place, pair-numbers, key-numbers, items, here, in-text, pairs-in, keys-in, table-checks, BodyToWrite, fields-to-write, writing-header-body, written, output-after}
 use Rattle.format.specs.Demand3.{Held, Each, HeldBody}
-use Rattle.format.specs.WrittenBack.{again, WritesBack, WrittenBack}
+use Rattle.format.specs.WrittenBack.{again, WrittenBack}
 use Rattle.format.proofs.Body.{Sent, BodyOk, sent-bytes, body-at, body-exact, fields-at, some-bytes}
 use Rattle.format.proofs.Accepts.{accepts, body-good}
 use Rattle.format.proofs.Messages.{accepted-took}
-use Rattle.format.proofs.Held.{Within, Here, body-held, body-within}
+use Rattle.format.proofs.Held.{Within, body-held, body-within}
 use Rattle.format.proofs.Tests.{leb-is, eqb-is}
 use Rattle.format.proofs.Firsts.{unheld}
-use Rattle.format.proofs.Filled.{place-there, pair-table, key-table}
+use Rattle.format.proofs.Filled.{place-there, pairs-there, keys-there}
 use Rattle.format.proofs.Written.{writes}
 
--- the numbers of parts, two each
-places-long : (ps : List Part) → length (images place ps) ≡ 2 * length ps
+-- items of k numbers or parts each
+each-long : {A B : Type 0} (f : A → List B) (k : ℕ) → ((x : A) → length (f x) ≡ k) → (xs : List A) → length (images f xs) ≡ length xs * k
 unfolding images
-places-long [] = refl
-places-long (p ∷ ps) = let e = places-long ps in omega arith
+each-long f k h [] = sym (zero-mul k)
+each-long f k h (x ∷ xs) = rw (length-append (f x) (images f xs), h x, each-long f k h xs, suc-mul (length xs) k, add-comm k (length xs * k)) refl
 
-pairs-long : (ps : List PairAt) → length (images pair-places ps) ≡ 2 * length ps
-unfolding images
-pairs-long [] = refl
-pairs-long (p ∷ ps) = let e = pairs-long ps in omega arith
-
-keys-long : (ks : List EncryptedDataKeyAt) → length (images key-places ks) ≡ 3 * length ks
-unfolding images
-keys-long [] = refl
-keys-long (k ∷ ks) = let e = keys-long ks in omega arith
+places-long : (ps : List Part) → length (images place ps) ≡ length ps * 2
+places-long = each-long place 2 (λ p. refl)
 
 -- parts within a message pass 26
 inside : (m table : List ℕ) (ps : List Part) (at : ℕ) → Each (Within m) ps → drop at table ≡ images place ps → every (in-text m table) (items here 2 (length ps) at) ≡ true
@@ -62,28 +54,21 @@ passes k m ps whole h =
 front : (numbers table : List ℕ) (n : ℕ) → length numbers ≡ n → take n (filled numbers table) ≡ numbers
 front numbers table n e = rw (← e) (take-append-seam numbers (drop (length numbers) table))
 
-alone : (numbers : List ℕ) → filled numbers [] ≡ numbers
-alone numbers = let e : drop (length numbers) [] ≡ [] = nothing (length numbers) in rw (e, append-nil numbers) refl
-  where
-    nothing : (n : ℕ) → _≡_ {A = List ℕ} (drop n []) []
-    nothing zero = refl
-    nothing (suc n) = refl
-
 pair-numbers-long : (ps : List PairAt) → length (pair-numbers ps) ≡ 4 * length ps
-pair-numbers-long ps = let a = places-long (images pair-places ps) in let b = pairs-long ps in omega arith
+pair-numbers-long ps = let a = places-long (images pair-places ps) in let b = each-long pair-places 2 (λ p. refl) ps in omega arith
 
 key-numbers-long : (ks : List EncryptedDataKeyAt) → length (key-numbers ks) ≡ 6 * length ks
-key-numbers-long ks = let a = places-long (images key-places ks) in let b = keys-long ks in omega arith
+key-numbers-long ks = let a = places-long (images key-places ks) in let b = each-long key-places 3 (λ k. refl) ks in omega arith
 
 pairs-back : (m : List ℕ) (ps : List PairAt) → Each (Held m) (images pair-places ps) → pairs-in m (pair-numbers ps) ≡ map pair-of ps
 pairs-back m ps h =
     let n : length (pair-numbers ps) / 4 ≡ length ps = (let e = pair-numbers-long ps in omega arith) in
-    rw n (rw (alone (pair-numbers ps)) at (pair-table m [] ps h))
+    rw n (pairs-there m (pair-numbers ps) ps [] 0 h (sym (append-nil (pair-numbers ps))))
 
 keys-back : (m : List ℕ) (ks : List EncryptedDataKeyAt) → Each (Held m) (images key-places ks) → keys-in m (key-numbers ks) ≡ map key-of ks
 keys-back m ks h =
     let n : length (key-numbers ks) / 6 ≡ length ks = (let e = key-numbers-long ks in omega arith) in
-    rw n (rw (alone (key-numbers ks)) at (key-table m [] ks h))
+    rw n (keys-there m (key-numbers ks) ks [] 0 h (sym (append-nil (key-numbers ks))))
 
 module _ (m : List ℕ) (s : ℕ) (v : Sent) (q : Request) (tests : q .frames ≡ true) (ok : BodyOk q v) (after : List ℕ) (split : drop s m ≡ sent-bytes v ++ after) (pairTable keyTable : List ℕ) where
   abbrev b : HeaderBody

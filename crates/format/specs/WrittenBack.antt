@@ -2,7 +2,7 @@
 -- strict, from any start. It is proved in proofs/WrittenBack. Assumes nothing.
 use mathlib.Core.Path.{_≡_}
 use mathlib.Core.List.{List}
-use Prim.Native.Nat.{ℕ, _+_, _*_, _-_, _≤_}
+use Prim.Native.Nat.{ℕ, _*_, _-_, _≤_}
 use lib.ListN.{length, take}
 use Rattle.format.specs.Read.{accepted, operation}
 use Rattle.format.specs.Serialize.{Bytes}

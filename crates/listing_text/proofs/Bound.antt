@@ -12,14 +12,14 @@ use Rattle.format.specs.Read.{Answer, accepted, refused, operation}
 use Rattle.format.specs.Serialize.{Bytes, Part, images, every}
 use Rattle.format.specs.Shared.{one-or-two}
 use Rattle.format.specs.Fields.{Form, today, old, Pair, EncryptedDataKey, Fields, PairAt, EncryptedDataKeyAt, HeaderBody, pair-of, key-of, pair-places, key-places, fields-of}
-use Rattle.format.specs.Context.{tolerant, write-aad-pair, write-aad-pairs, write-aad, write-aad-section, write-expanded-aad-section, section-in}
+use Rattle.format.specs.Context.{tolerant, write-aad-pair, write-aad-pairs, write-aad-section, section-in}
 use Rattle.format.specs.Keys.{no-max, write-encrypted-data-key, write-encrypted-data-keys, write-encrypted-data-keys-section}
 use Rattle.format.specs.Body.{either, Request, request, read-body, read-header-body, write-opening-of, write-closing-of, image}
 use Rattle.format.specs.Refusals.{opening-refusals, section-refusals, reserved-refusals, frame-refusals, closing-refusals, body-refusals, Refusal}
 use Rattle.format.specs.Demand3.{mark-by}
 use Rattle.format.proofs.Tests.{is-eqb}
 use Rattle.format.proofs.Serialize.{length-uint16, length-uint32, length-entry}
-use Rattle.format.proofs.Context.{length-pair}
+use Rattle.format.proofs.Context.{length-pair, length-pairs, length-expanded}
 use Rattle.format.proofs.Accepts.{good}
 use Rattle.format.proofs.Firsts.{both}
 use Rattle.format.proofs.Messages.{operation-long}
@@ -72,15 +72,11 @@ unfolding lines write-encrypted-data-keys
 keys-short ks = lines-short _ write-encrypted-data-key key-of key-line ks
 
 -- the sections have their pairs and keys behind two bytes at least
-expanded-long : (ps : List Pair) → length (write-expanded-aad-section ps) ≡ 4 + length (write-aad-pairs ps)
-unfolding write-expanded-aad-section write-aad
-expanded-long ps = simp (length-append, length-uint16) (omega arith)
-
 section-long : (form : Form) (ps : List Pair) → 2 + length (write-aad-pairs ps) ≤ length (section-in form ps)
 unfolding write-aad-section write-aad-pairs images
 section-long today [] = rw length-uint16 (omega arith)
-section-long today (p ∷ ps) = let e = expanded-long (p ∷ ps) in omega arith
-section-long old ps = let e = expanded-long ps in omega arith
+section-long today (p ∷ ps) = let e = length-expanded (p ∷ ps) in let d = length-pairs (p ∷ ps) in omega arith
+section-long old ps = let e = length-expanded ps in let d = length-pairs ps in omega arith
 
 keys-long : (ks : List EncryptedDataKey) → length (write-encrypted-data-keys-section ks) ≡ 2 + length (write-encrypted-data-keys ks)
 unfolding write-encrypted-data-keys-section

@@ -1,8 +1,8 @@
 -- What the reader's calls gave is written back by the writer's: the definitions' theorem, by both contracts. Assumes nothing.
-use Prim.Native.Nat.{ℕ, _*_, _-_, _≤_}
-use mathlib.Core.Path.{_≡_, refl, sym, ap, _∙_}
+use Prim.Native.Nat.{ℕ, _-_, _≤_}
+use mathlib.Core.Path.{_≡_, refl, ap, _∙_}
 use mathlib.Core.List.{List}
-use lib.ListN.{length, take}
+use lib.ListN.{length}
 use Rattle.format.specs.Read.{accepted}
 use Rattle.format.specs.Serialize.{Bytes}
 use Rattle.format.specs.Fields.{today, old}
