@@ -30,8 +30,8 @@ pub struct BafirolenAuth {
     pub tag: [u8; 16],
 }
 
-// A body that was read: its numbers with the mark of its form, where its ID and suite data stand, how many pairs and keys, and the tail. Number 0:
-// accepted; on a refusal all but the number and the position is 0.
+// A body that was read: its numbers with the mark of its form, where its ID and suite data stand, how many pairs and keys, and the
+// tail. Number 0: accepted; on a refusal all but the number and the position is 0.
 #[repr(C)]
 pub struct BafirolenBody {
     pub number: u64,

@@ -12,7 +12,9 @@ use lib.ListN.{length}
 use Rattle.format.specs.Read.{Answer, accepted, refused, at, addressable, operation}
 use Rattle.format.specs.Serialize.{images}
 use Rattle.format.specs.Shared.{frame-fits}
+use Rattle.format.specs.Fields.{form-number}
 use Rattle.format.specs.Fields.{HeaderBody as BodyRead}
+use Rattle.format.specs.Context.{form-ending}
 use Rattle.format.specs.Body.{Request, tests-frames, request, whole, read-opening, read-closing, read-body, read-header-body}
 use Rattle.format.specs.Lent.{place, filled, pair-table-after, key-table-after}
 use Rattle.steps.proofs.Operations.{operation-guarded, operation-reached}
@@ -25,13 +27,12 @@ use Rattle.request.specs.declared.Mode.{Mode}
 use Rattle.request.specs.declared.Max.{Max}
 use Rattle.context.proofs.Whole as pairs
 use Rattle.keys.proofs.Whole as keys
-use Rattle.fields.specs.Codes.{form-number}
 use Rattle.ends.specs.Codes.{closing-of}
 use Rattle.ends.specs.declared.Opening.{Opening}
 use Rattle.ends.specs.declared.Closing.{Closing}
 use Rattle.ends.proofs.OpeningLaws.{OpeningHad, opening-got}
 use Rattle.ends.proofs.ClosingLaws.{ClosingHad, closing-got}
-use Rattle.body_reader.specs.Codes.{body-of, ReadsBody, form-by, body-with, frame-test, why-measure, Stages, Measured}
+use Rattle.body_reader.specs.Codes.{body-of, ReadsBody, body-with, frame-test, why-measure, Stages, Measured}
 use Rattle.body_reader.specs.declared.HeaderBodyAnswer.{HeaderBodyAnswer}
 use Rattle.body_reader.specs.declared.HeaderBodyAnswer.the-variants as body
 use Rattle.body_reader.specs.declared.MeasureAnswer.{MeasureAnswer}
@@ -49,10 +50,10 @@ same-body o o′ form np np′ nk nk′ c c′ t p q r s = rw (p, q, r, s)
 
 -- the mark
 module _ (firstPair end : ℕ) where
-  pub marked-old : end ≡ firstPair → 1 ≡ form-number (form-by firstPair end)
+  pub marked-old : end ≡ firstPair → 1 ≡ form-number (form-ending firstPair end)
   marked-old e = rw (eq-eqb _ _ e)
 
-  pub marked-today : (end ≡ firstPair → ⊥) → 0 ≡ form-number (form-by firstPair end)
+  pub marked-today : (end ≡ firstPair → ⊥) → 0 ≡ form-number (form-ending firstPair end)
   marked-today h = rw (ne-eqb _ _ h)
 
 -- the guard
@@ -127,7 +128,7 @@ module _ (which : Which) (mode : Mode) (max : Max) (m : List ℕ) (start : ℕ) 
             f
 
         pub body-whole : nk ≤ length kt / 6 → (pt′ kt′ : List ℕ) → pt′ ≡ filled (images place (entries-here m (2 * np) (first + 4))) pt
-            → kt′ ≡ filled (images place (entries-here m (3 * nk) (second + 2))) kt → (form : ℕ) → form ≡ form-number (form-by (first + 4) second) → r ≡ body.Accepted (body-with o form np nk c) tail
+            → kt′ ≡ filled (images place (entries-here m (3 * nk) (second + 2))) kt → (form : ℕ) → form ≡ form-number (form-ending (first + 4) second) → r ≡ body.Accepted (body-with o form np nk c) tail
             → ReadsBody (at (read-header-body (which-of which) (mode-of mode) (max-of max) (length pt) (length kt)) m start) pt pt′ kt kt′ r
         unfolding read-header-body
         body-whole j pt′ kt′ p k form g f =

@@ -1,13 +1,13 @@
 -- The code's answer, of what a body reader answers, and the contracts of reading. Assumes nothing.
 use mathlib.Core.Path.{_≡_}
-use mathlib.Core.Bool.{Bool, true, _||_, not, cond}
+use mathlib.Core.Bool.{Bool, true, _||_, not}
 use mathlib.Core.List.{List}
 use Prim.Native.Nat.{ℕ}
 use lib.Dec.{eqb}
 use lib.ListN.{length}
 use Rattle.format.specs.Read.{Answer, accepted, refused, at}
 use Rattle.format.specs.Shared.{frame-fits}
-use Rattle.format.specs.Fields.{Form, today, old}
+use Rattle.format.specs.Fields.{form-number}
 use Rattle.format.specs.Fields.{HeaderBody as BodyRead}
 use Rattle.format.specs.Context.{read-aad-section}
 use Rattle.format.specs.Keys.{read-encrypted-data-keys-section}
@@ -19,7 +19,6 @@ use Rattle.request.specs.Codes.{which-of, mode-of, max-of}
 use Rattle.request.specs.declared.Which.{Which}
 use Rattle.request.specs.declared.Mode.{Mode}
 use Rattle.request.specs.declared.Max.{Max}
-use Rattle.fields.specs.Codes.{form-number}
 use Rattle.fields.specs.declared.BodyNumbers.{BodyNumbers}
 use Rattle.context.specs.Codes.{context-of}
 use Rattle.context.specs.declared.ContextAnswer.the-variants as context
@@ -70,10 +69,6 @@ pub record ReadsBody (o : Answer BodyRead) (pairs pairs′ keys keys′ : List �
   pub answer : r ≡ body-of o
   pub pairTable : pairs′ ≡ pair-table-after o pairs
   pub keyTable : keys′ ≡ key-table-after o keys
-
--- the mark of a context section whose first pair would start at one place and that ends at another
-abbrev pub form-by : ℕ → ℕ → Form
-form-by firstPair end = cond (eqb end firstPair) old today
 
 -- a body's ends, its mark as a number, and its counts, put together
 abbrev numbers-with : Opening → ℕ → Closing → BodyNumbers

@@ -19,11 +19,12 @@ ghost use mathlib.Core.Path.{_≡_};
 ghost use Prim.Native.Nat.{_<_};
 ghost use lib.ListN.{length};
 ghost use Rattle.format.specs.Read.{at, operation};
+ghost use Rattle.format.specs.Fields.{form-number};
+ghost use Rattle.format.specs.Context.{form-ending};
 ghost use Rattle.format.specs.Body.{read-header-body};
 ghost use Rattle.wire.specs.Codes.{because};
 ghost use Rattle.request.specs.Codes.{which-of, mode-of, max-of};
-ghost use Rattle.fields.specs.Codes.{form-number};
-ghost use Rattle.body_reader.specs.Codes.{ReadsBody, Measured, form-by, body-with, frame-test, why-measure};
+ghost use Rattle.body_reader.specs.Codes.{ReadsBody, Measured, body-with, frame-test, why-measure};
 
 // The ID and the suite data by their places in the message, and how many pairs and keys stand in the tables. Type, IV length
 // and suite data are 0 where the version lacks them.
@@ -79,7 +80,7 @@ impl MeasureAnswer {
 
 // An empty context in its old form ends where a first pair would start, and no other section does.
 fn form_of(firstPair: u64, sectionEnd: u64) -> u32
-    ensures { λ r. ⌜ r ≡ form-number (form-by firstPair sectionEnd) ⌝ }
+    ensures { λ r. ⌜ r ≡ form-number (form-ending firstPair sectionEnd) ⌝ }
 {
     if sectionEnd == firstPair {
         return OLD;

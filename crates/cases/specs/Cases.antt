@@ -10,7 +10,7 @@ use Rattle.format.specs.Read.{_>>=_, _>>_, return, test, held, repeat, framed, 
 use Rattle.format.specs.Serialize.{read, read-uint, read-uint8, read-uint16, write-uint16, read-uint32, write-uint32, read-short-length-seq, write-short-length-seq, images, sum, every, same-bytes}
 use Rattle.format.specs.Utf8.{rows, first-byte, octets}
 use Rattle.format.specs.Shared.{suites, version-in, read-message-format-version, read-esdk-suite-id, read-content-type, frame-fits}
-use Rattle.format.specs.Fields.{Form, today, old, Fields, HeaderBody}
+use Rattle.format.specs.Fields.{Form, today, form-number, Fields, HeaderBody}
 use Rattle.format.specs.Context.{seen, write-aad-pair, write-aad-pairs, write-aad, write-expanded-aad-section, write-aad-section, Mode, tolerant, strict, read-text, read-aad-pair, read-next-aad-pair, read-aad-by, read-aad, read-aad-of, read-aad-section, with-mark, read-aad-section-into}
 use Rattle.format.specs.Keys.{no-max, write-encrypted-data-key, write-encrypted-data-keys, write-encrypted-data-keys-section, read-encrypted-data-key, read-encrypted-data-keys-section}
 use Rattle.format.specs.Body.{either, read-opening-of, read-opening, read-closing-of, read-closing, after-context, after-opening, read-body, read-header-body, write-opening-of, write-closing-of, image}
@@ -25,15 +25,10 @@ pub data Expected : Type 0 where
 abbrev pub shortage-at : ℕ → Expected
 shortage-at position = refuses 2 position
 
--- the mark: 0 for today's form, 1 for the old one
-abbrev mark-number : Form → ℕ
-mark-number today = 0
-mark-number old = 1
-
 -- a body's numbers: version, type, suite, mark, the ID's place, the tables, content type, IV length, frame length, the suite data's place
 unfoldable pub body-numbers : HeaderBody → List ℕ
 body-numbers b =
-    (b .version ∷ b .messageType ∷ b .suite ∷ mark-number (b .form) ∷ place (b .messageId))
+    (b .version ∷ b .messageType ∷ b .suite ∷ form-number (b .form) ∷ place (b .messageId))
     ++ (pair-numbers (b .pairs) ++ (key-numbers (b .keys) ++ (b .contentType ∷ b .headerIvLength ∷ b .frameLength ∷ place (b .suiteData))))
 
 pub data Case : Type 0 where

@@ -189,6 +189,7 @@ faults =
     ∷ write (to-write 1 0x80 0x0178 id (0 ∷ 4 ∷ 4 ∷ 2 ∷ []) [] 2 12 [] 0) 20
     ∷ write (to-write 1 0x80 0x0178 id (0 ∷ 4 ∷ 4 ∷ 2 ∷ []) [] 1 12 [] 1) 20
     ∷ write (to-write 1 0x80 0x0178 id (0 ∷ 4 ∷ 4 ∷ 2 ∷ []) [] 2 12 [] 1) 28
+    ∷ write (old-with (6 ∷ 1 ∷ 4 ∷ 2 ∷ []) []) 10
     ∷ write (old-with (0 ∷ 4 ∷ 4 ∷ 3 ∷ []) []) 11
     ∷ write (old-with (0 ∷ 4 ∷ 4 ∷ 2 ∷ 0 ∷ 4 ∷ 4 ∷ 2 ∷ []) []) 12
     ∷ write (old-with (0 ∷ 4 ∷ 4 ∷ []) []) 26

@@ -1,4 +1,4 @@
--- The mark as the definitions have it, and as a number of the record. Assumes nothing.
+-- The mark as the definitions have it, and the mark that a number of the record names. Assumes nothing.
 use Prim.Native.Nat.{ℕ}
 use mathlib.Core.Bool.{cond}
 use lib.Dec.{eqb}
@@ -10,11 +10,6 @@ use Rattle.fields.specs.declared.Form.the-variants.{Today, Old}
 abbrev pub form-of : Form → Mark
 form-of Today = today
 form-of Old = old
-
--- what a reader gives
-abbrev pub form-number : Mark → ℕ
-form-number today = 0
-form-number old = 1
 
 -- what a writer takes a number for: 0 today's; any other old
 abbrev pub form-named : ℕ → Form

@@ -114,9 +114,14 @@ pub record ContextAt : Type 0 where
   pub form : Form
   pub pairs : List PairAt
 
--- the form of a section from s to t: an empty context in its old form takes four bytes, and no other section does
+-- the form of a section whose first pair would start at one place, and that ends at t: an empty context in its old form ends just there,
+-- and no other section does
+abbrev pub form-ending : ℕ → ℕ → Form
+form-ending first t = cond (eqb t first) old today
+
+-- of a section from s to t: a pair starts behind the length and the count
 abbrev pub form-between : ℕ → ℕ → Form
-form-between s t = cond (eqb t (s + 4)) old today
+form-between s t = form-ending (s + 4) t
 
 -- a section as it is read in a body, with its form
 abbrev pub mark : ℕ → List PairAt → Reader ContextAt

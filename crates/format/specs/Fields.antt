@@ -11,6 +11,11 @@ pub record Pair : Type 0 where
 pub data Form : Type 0 where
   today old : Form
 
+-- as a number, which a host's record has
+abbrev pub form-number : Form → ℕ
+form-number today = 0
+form-number old = 1
+
 pub record EncryptedDataKey : Type 0 where
   pub keyProviderId : List ℕ
   pub keyProviderInfo : List ℕ

@@ -7,7 +7,7 @@ use mathlib.Core.List.{List}
 use lib.ListN.{length}
 use Rattle.format.specs.Read.{Answer, accepted, refused, operation}
 use Rattle.format.specs.Serialize.{Bytes}
-use Rattle.format.specs.Fields.{today, old, Fields, fields-of}
+use Rattle.format.specs.Fields.{today, old, form-number, Fields, fields-of}
 use Rattle.format.specs.Fields.{HeaderBody as BodyRead}
 use Rattle.format.specs.Context.{Mode, tolerant, strict}
 use Rattle.format.specs.Keys.{Max}
@@ -18,7 +18,6 @@ use Rattle.format.specs.Demand3.{Stands, Gives, reaches-old}
 use Rattle.format.proofs.FirstBody.{first-refusals}
 use Rattle.format.proofs.Filled.{pair-table, key-table}
 use Rattle.format.proofs.Demand3.{demand-3}
-use Rattle.fields.specs.Codes.{form-number}
 use Rattle.wire.specs.Codes.{because}
 use Rattle.wire.specs.declared.Refusal.{Refusal}
 use Rattle.body_reader.specs.Codes.{body-code, body-of}

@@ -5,7 +5,7 @@ use mathlib.Core.List.{List}
 use lib.ListN.{length}
 use Rattle.format.specs.Read.{accepted}
 use Rattle.format.specs.Serialize.{Bytes}
-use Rattle.format.specs.Fields.{today, old}
+use Rattle.format.specs.Fields.{today, old, form-number}
 use Rattle.format.specs.Fields.{Form as Mark}
 use Rattle.format.specs.Fields.{HeaderBody as BodyRead}
 use Rattle.format.specs.Context.{Mode}
@@ -14,7 +14,7 @@ use Rattle.format.specs.Body.{either}
 use Rattle.format.specs.Lent.{bytes-at, filled, pair-table-after, key-table-after, BodyToWrite, written, output-after, writing-header-body}
 use Rattle.format.specs.WrittenBack.{again}
 use Rattle.format.proofs.WrittenBack.{written-back}
-use Rattle.fields.specs.Codes.{form-of, form-number, form-named}
+use Rattle.fields.specs.Codes.{form-of, form-named}
 use Rattle.body_reader.specs.Codes.{body-code}
 use Rattle.body_reader.specs.declared.HeaderBody.{HeaderBody}
 use Rattle.body_reader.specs.declared.HeaderBodyAnswer.the-variants.{Accepted}

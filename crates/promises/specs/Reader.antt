@@ -7,7 +7,7 @@ use mathlib.Core.List.{List}
 use lib.ListN.{length}
 use Rattle.format.specs.Read.{Answer, refused, operation}
 use Rattle.format.specs.Serialize.{Bytes}
-use Rattle.format.specs.Fields.{Fields}
+use Rattle.format.specs.Fields.{form-number, Fields}
 use Rattle.format.specs.Fields.{HeaderBody as BodyRead}
 use Rattle.format.specs.Context.{Mode, tolerant, strict}
 use Rattle.format.specs.Keys.{Max}
@@ -16,7 +16,6 @@ use Rattle.format.specs.Lent.{bytes-at, filled, pair-numbers, key-numbers, item
 use Rattle.format.specs.Places.{body-here, body-end}
 use Rattle.format.specs.First.{FirstApplies, NoneApplies, Line, operation-list, body-list}
 use Rattle.format.specs.Demand3.{Writer, mark-by, image-by, Stands, Gives, reaches-old, stands-at}
-use Rattle.fields.specs.Codes.{form-number}
 use Rattle.wire.specs.Codes.{because}
 use Rattle.wire.specs.declared.Refusal.{Refusal}
 use Rattle.body_reader.specs.Codes.{body-code, ReadsBody}
