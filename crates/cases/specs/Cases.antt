@@ -6,7 +6,7 @@ use mathlib.Core.List.{List, [], _∷_, _++_}
 use Prim.Native.Nat.{ℕ}
 use lib.Dec.{eqb}
 use lib.ListN.{take}
-use Rattle.format.specs.Read.{_>>=_, _>>_, return, test, held, repeat, framed, Answer, accepted, refused, at, operation}
+use Rattle.format.specs.Read.{_>>=_, _>>_, return, test, held, repeat, enclosed, Answer, accepted, refused, at, operation}
 use Rattle.format.specs.Serialize.{read, read-uint, read-uint8, read-uint16, write-uint16, read-uint32, write-uint32, read-short-length-seq, write-short-length-seq, images, sum, every, same-bytes}
 use Rattle.format.specs.Utf8.{rows, first-byte, octets}
 use Rattle.format.specs.Shared.{suites, version-in, read-message-format-version, read-esdk-suite-id, read-content-type, frame-fits}
@@ -103,7 +103,7 @@ cases =
 
 -- to unfold this is to unfold all that a reader is made of
 unfoldable pub opened : Unit {0}
-unfolding _>>=_ _>>_ return test held repeat framed at operation read read-uint read-uint8 read-uint16 read-uint32 read-short-length-seq sum same-bytes rows first-byte octets suites version-in read-message-format-version read-esdk-suite-id read-content-type frame-fits seen read-text read-aad-pair read-next-aad-pair read-aad-by read-aad read-aad-of read-aad-section with-mark read-aad-section-into read-encrypted-data-key read-encrypted-data-keys-section read-opening-of read-opening read-closing-of read-closing after-context after-opening read-body read-header-body
+unfolding _>>=_ _>>_ return test held repeat enclosed at operation read read-uint read-uint8 read-uint16 read-uint32 read-short-length-seq sum same-bytes rows first-byte octets suites version-in read-message-format-version read-esdk-suite-id read-content-type frame-fits seen read-text read-aad-pair read-next-aad-pair read-aad-by read-aad read-aad-of read-aad-section with-mark read-aad-section-into read-encrypted-data-key read-encrypted-data-keys-section read-opening-of read-opening read-closing-of read-closing after-context after-opening read-body read-header-body
 opened = tt
 
 -- and a writer

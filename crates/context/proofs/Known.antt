@@ -13,7 +13,7 @@ use Rattle.format.specs.Places.{items-here, pair-here, pair-end}
 use Rattle.steps.proofs.Tidy.{Tidy, tidy, return-tidy, text-tidy, uint16-tidy}
 use Rattle.format.proofs.Tests.{is-nleb}
 use Rattle.steps.proofs.Steps.{un-bind, un-test, un-held, un-return}
-use Rattle.steps.proofs.Frames.{un-frame}
+use Rattle.steps.proofs.Enclosed.{un-enclosed}
 use Rattle.steps.proofs.Numbers.{uint16-known}
 use Rattle.steps.proofs.Entries.{text-known}
 use Rattle.entries.proofs.Walk.{Known, Kind}
@@ -92,7 +92,7 @@ section-known mode m start ps t e = by (eqb (x .0) 0) (x .3)
         rw (z .0, z .1) (record { are = refl; inside = λ h. absurd (omega arith); within = omega arith })
     by false q =
         let k = uint16-known m start (x .0) (x .1) (x .2) in
-        let r = un-frame (x .0) 14 (read-aad mode (x .0)) m (x .1) (omega arith) ps t q in
+        let r = un-enclosed (x .0) 14 (read-aad mode (x .0)) m (x .1) (omega arith) ps t q in
         let w = un-held (end-at (x .1 + x .0)) 2 _ m (x .1) ps t r in
         let y = un-bind _ uint16-tidy m (x .1) ps t (w .1) in
         let c = uint16-known m (x .1) (y .0) (y .1) (y .2) in

@@ -9,7 +9,7 @@ use mir.Val.{Fits}
 use borrow.Author.Tests.{eq-eqb, ne-eqb}
 use lib.Dec.{eqb}
 use lib.ListN.{length}
-use Rattle.format.specs.Read.{_>>_, test, end-at, Answer, accepted, refused, repeat, framed, at}
+use Rattle.format.specs.Read.{_>>_, test, end-at, Answer, accepted, refused, repeat, enclosed, at}
 use Rattle.format.specs.Serialize.{read-uint16}
 use Rattle.format.specs.Fields.{PairAt}
 use Rattle.format.specs.Context.{is-strict, read-next-aad-pair, read-aad-by, read-aad, read-aad-of, read-aad-section}
@@ -17,7 +17,7 @@ use Rattle.format.specs.Places.{number16}
 use Rattle.format.proofs.Tests.{leb-is, nleb-is}
 use Rattle.steps.proofs.Tidy.{uint16-tidy}
 use Rattle.steps.proofs.Steps.{go, stop, pass, fail, held-pass, held-fail, gives, all-read}
-use Rattle.steps.proofs.Frames.{frame-short, frame-stops, frame-fits, frame-differs}
+use Rattle.steps.proofs.Enclosed.{enclosed-lacks, enclosed-stops, enclosed-ends, enclosed-differs}
 use Rattle.steps.proofs.Numbers.{uint16-got, uint16-known}
 use Rattle.wire.specs.Codes.{because, number-of, why-number}
 use Rattle.wire.specs.declared.Refusal.{Refusal}
@@ -80,14 +80,14 @@ module _ (mode : Mode) (m : List ℕ) (s n count : ℕ) (room : 2 ≤ n) (there 
 
 -- what follows the length
 module _ (mode : Mode) (m : List ℕ) (s n : ℕ) (g : s + n ≤ length m) where
-  abbrev framed-at : Answer (List PairAt)
-  framed-at = at (framed n 14 (read-aad (mode-of mode) n)) m s
+  abbrev enclosed-at : Answer (List PairAt)
+  enclosed-at = at (enclosed n 14 (read-aad (mode-of mode) n)) m s
 
-  stops : (k p : ℕ) → at (read-aad (mode-of mode) n (end-at (s + n))) m s ≡ refused k p → framed-at ≡ refused k p
-  stops k p e = frame-stops n 14 (read-aad (mode-of mode) n) m s (omega arith) g k p e
+  stops : (k p : ℕ) → at (read-aad (mode-of mode) n (end-at (s + n))) m s ≡ refused k p → enclosed-at ≡ refused k p
+  stops k p e = enclosed-stops n 14 (read-aad (mode-of mode) n) m s (omega arith) g k p e
 
   -- a length of 1 has no room for the count
-  pub counted-32 : n < 2 → (r : ContextAnswer) → r ≡ Refused (because 32 0) → r ≡ context-of framed-at
+  pub counted-32 : n < 2 → (r : ContextAnswer) → r ≡ Refused (because 32 0) → r ≡ context-of enclosed-at
   unfolding read-aad
   counted-32 h r f = f ∙ sym (rw (stops 32 0 (held-fail (end-at (s + n)) 2 _ m s (leb-is (suc (s + n)) (s + 2) (omega arith)))))
 
@@ -97,19 +97,19 @@ module _ (mode : Mode) (m : List ℕ) (s n : ℕ) (g : s + n ≤ length m) where
 
     module _ (count : ℕ) (is : count ≡ number16 m s) where
       module _ (r : ContextAnswer) where
-        pub counted-old : n ≡ 2 → count ≡ 0 → r ≡ old-of mode (s + 2) → r ≡ context-of framed-at
+        pub counted-old : n ≡ 2 → count ≡ 0 → r ≡ old-of mode (s + 2) → r ≡ context-of enclosed-at
         counted-old h k f = f ∙ by mode refl
           where
-            by : (w : Mode) → mode ≡ w → old-of mode (s + 2) ≡ context-of framed-at
+            by : (w : Mode) → mode ≡ w → old-of mode (s + 2) ≡ context-of enclosed-at
             by Tolerant e =
-                let o = frame-fits n 14 (read-aad (mode-of mode) n) m s (omega arith) g [] (s + 2) (aad-old mode m s n count room counted-there is h k e) (omega arith) in
+                let o = enclosed-ends n 14 (read-aad (mode-of mode) n) m s (omega arith) g [] (s + 2) (aad-old mode m s n count room counted-there is h k e) (omega arith) in
                 ap (λ (w : Mode). old-of w (s + 2)) e ∙ sym (ap context-of o)
             by Strict e = ap (λ (w : Mode). old-of w (s + 2)) e ∙ sym (ap context-of (stops 21 0 (aad-21 mode m s n count room counted-there is h k e)))
 
-        pub counted-8 : n ≡ 2 → (count ≡ 0 → ⊥) → r ≡ Refused (because 8 0) → r ≡ context-of framed-at
+        pub counted-8 : n ≡ 2 → (count ≡ 0 → ⊥) → r ≡ Refused (because 8 0) → r ≡ context-of enclosed-at
         counted-8 h k f = f ∙ sym (rw (stops 8 0 (aad-8 mode m s n count room counted-there is h k)))
 
-        pub counted-9 : (n ≡ 2 → ⊥) → count ≡ 0 → r ≡ Refused (because 9 0) → r ≡ context-of framed-at
+        pub counted-9 : (n ≡ 2 → ⊥) → count ≡ 0 → r ≡ Refused (because 9 0) → r ≡ context-of enclosed-at
         counted-9 h k f = f ∙ sym (rw (stops 9 0 (aad-9 mode m s n count room counted-there is h k)))
 
       module _ (h : n ≡ 2 → ⊥) (k : count ≡ 0 → ⊥) (room′ : ℕ) (keys : List ℕ) (e : Next) (all : ReadAll m (s + 2) (s + n) count room′ keys e) where
@@ -119,7 +119,7 @@ module _ (mode : Mode) (m : List ℕ) (s n : ℕ) (g : s + n ≤ length m) where
         eIs : e ≡ next-of pairs
         eIs = all .answer
 
-        pub counted-stop : (q : Refusal) → e ≡ next.Not q → (a : Refusal) → a ≡ why-next e → Refused a ≡ context-of framed-at
+        pub counted-stop : (q : Refusal) → e ≡ next.Not q → (a : Refusal) → a ≡ why-next e → Refused a ≡ context-of enclosed-at
         counted-stop q d a f = rw (f, d, stops _ _ (aad-many mode m s n count room counted-there is h k ∙ next-no pairs e eIs q d))
 
         module _ (t : ℕ) (d : e ≡ next.At t) (r : ContextAnswer) where
@@ -129,13 +129,13 @@ module _ (mode : Mode) (m : List ℕ) (s n : ℕ) (g : s + n ≤ length m) where
           abbrev read : at (read-aad (mode-of mode) n (end-at (s + n))) m s ≡ accepted (went .item) t
           read = aad-many mode m s n count room counted-there is h k ∙ went .is
 
-          pub counted-14 : (t ≡ s + n → ⊥) → r ≡ Refused (because 14 0) → r ≡ context-of framed-at
-          counted-14 j f = f ∙ sym (ap context-of (frame-differs n 14 (read-aad (mode-of mode) n) m s (omega arith) g (went .item) t read j))
+          pub counted-14 : (t ≡ s + n → ⊥) → r ≡ Refused (because 14 0) → r ≡ context-of enclosed-at
+          counted-14 j f = f ∙ sym (ap context-of (enclosed-differs n 14 (read-aad (mode-of mode) n) m s (omega arith) g (went .item) t read j))
 
-          pub counted-whole : t ≡ s + n → r ≡ Accepted count t → r ≡ context-of framed-at
+          pub counted-whole : t ≡ s + n → r ≡ Accepted count t → r ≡ context-of enclosed-at
           counted-whole j f =
               f ∙ ap (λ (i : ℕ). Accepted i t) (sym (all-length (pair-kind (end-at (s + n))) m count (s + 2) counted-there (went .item) t (went .is)))
-              ∙ sym (ap context-of (frame-fits n 14 (read-aad (mode-of mode) n) m s (omega arith) g (went .item) t read j))
+              ∙ sym (ap context-of (enclosed-ends n 14 (read-aad (mode-of mode) n) m s (omega arith) g (went .item) t read j))
 
 -- where the section's pairs may stand
 pub counted-space : (m : List ℕ) (s n : ℕ) → s + n ≤ length m → n < 65536 → 2 ≤ n → Space m (s + 2) (s + n)
@@ -155,7 +155,7 @@ module _ (mode : Mode) (m : List ℕ) (s : ℕ) (x : Number) (is : x ≡ number-
     unfolding read-aad-section read-aad-of
     at-empty z = go _ uint16-tidy m s n t d ∙ rw (eq-eqb n 0 z) (gives [] m t)
 
-    at-rest : (n ≡ 0 → ⊥) → at (read-aad-section (mode-of mode)) m s ≡ at (framed n 14 (read-aad (mode-of mode) n)) m t
+    at-rest : (n ≡ 0 → ⊥) → at (read-aad-section (mode-of mode)) m s ≡ at (enclosed n 14 (read-aad (mode-of mode) n)) m t
     unfolding read-aad-section read-aad-of
     at-rest z = go _ uint16-tidy m s n t d ∙ rw (ne-eqb n 0 z)
 
@@ -166,9 +166,9 @@ module _ (mode : Mode) (m : List ℕ) (s : ℕ) (x : Number) (is : x ≡ number-
       pub section-short : length m < t + n → (a : Refusal) → a ≡ because 2 (t + n) → Refused a ≡ context-of (at (read-aad-section (mode-of mode)) m s)
       section-short h a f =
           let y = uint16-known m s n t d in
-          ap (λ (q : Refusal). Refused q) f ∙ sym (ap context-of (at-rest z ∙ frame-short n 14 (read-aad (mode-of mode) n) m t (omega arith) h))
+          ap (λ (q : Refusal). Refused q) f ∙ sym (ap context-of (at-rest z ∙ enclosed-lacks n 14 (read-aad (mode-of mode) n) m t (omega arith) h))
 
-      pub section-rest : (r : ContextAnswer) → r ≡ context-of (at (framed n 14 (read-aad (mode-of mode) n)) m t) → r ≡ context-of (at (read-aad-section (mode-of mode)) m s)
+      pub section-rest : (r : ContextAnswer) → r ≡ context-of (at (enclosed n 14 (read-aad (mode-of mode) n)) m t) → r ≡ context-of (at (read-aad-section (mode-of mode)) m s)
       section-rest r f = f ∙ sym (ap context-of (at-rest z))
 
 pub length-fits : (m : List ℕ) (s : ℕ) (x : Number) → x ≡ number-of (at read-uint16 m s) → (n t : ℕ) → x ≡ number.Is n t → length m < 4294967296 → n < 65536 → Fits w64 (t + n)

@@ -12,7 +12,7 @@ use wire::shortage;
 ghost use mathlib.Core.Path.{_≡_};
 ghost use Prim.Native.Nat.{_+_, _≤_, _<_};
 ghost use lib.ListN.{length};
-ghost use Rattle.format.specs.Read.{at, framed};
+ghost use Rattle.format.specs.Read.{at, enclosed};
 ghost use Rattle.format.specs.Context.{read-aad, read-aad-section};
 ghost use Rattle.request.specs.Codes.{mode-of};
 ghost use Rattle.context.specs.Codes.{context-of, old-of};
@@ -31,7 +31,7 @@ fn old_empty(mode: Mode, tail: u64) -> ContextAnswer
 // What follows the section's length n, which the message has: a count and the pairs.
 fn counted(m: &[u8], s: u64, n: u64, mode: Mode, keys: &mut [u16]) -> ContextAnswer
     requires { ⌜ (s + n ≤ length (now m)) × (n < 65536) × (length (now m) < 4294967296) × Lendable (length (now keys)) ⌝ }
-    ensures { λ r. ⌜ (r ≡ context-of (at (framed n 14 (read-aad (mode-of mode) n)) (now (m .entry)) s)) × Indexes (now (m .entry)) (s + 2) (length (now (keys .entry))) (now (keys .exit)) r ⌝ }
+    ensures { λ r. ⌜ (r ≡ context-of (at (enclosed n 14 (read-aad (mode-of mode) n)) (now (m .entry)) s)) × Indexes (now (m .entry)) (s + 2) (length (now (keys .entry))) (now (keys .exit)) r ⌝ }
 {
     if n < 2 {
         return refused(refusals::PAST_SECTION);

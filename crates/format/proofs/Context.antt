@@ -7,7 +7,7 @@ use native.Mathlib.Omega.{arith}
 use native.Mathlib.Nat.{add-assoc}
 use lib.Dec.{ltb, eqb}
 use lib.ListN.{length, length-append}
-use Rattle.format.specs.Read.{Reader, _>>=_, _>>_, return, test, no-end, repeat, framed}
+use Rattle.format.specs.Read.{Reader, _>>=_, _>>_, return, test, no-end, repeat, enclosed}
 use Rattle.format.specs.Serialize.{Bytes, Part, read-uint16, write-uint16, write-short-length-seq, entry-length, images, sum}
 use Rattle.format.specs.Utf8.{valid-utf8-seq}
 use Rattle.format.specs.Fields.{Form, today, old, Pair, PairAt, pair-of}
@@ -15,7 +15,7 @@ use Rattle.format.specs.Context.{seen, pair-length, linear-length, pairs
 use Rattle.format.specs.Source.{source-read-next-aad-pair, source-read-aad-of}
 use Rattle.format.specs.Sections.{Allowed}
 use Rattle.format.proofs.Tests.{is-leb, is-eqb, neqb-is}
-use Rattle.format.proofs.Exact.{Exact, seq-exact, seq-exact-if, check-exact, give-exact, revalue, framed-exact, many-exact, Oks, puts}
+use Rattle.format.proofs.Exact.{Exact, seq-exact, seq-exact-if, check-exact, give-exact, revalue, enclosed-exact, many-exact, Oks, puts}
 use Rattle.format.proofs.Serialize.{uint16-exact, length-uint16, length-entry, entry-exact, entry-at, Short}
 
 -- a text
@@ -133,7 +133,7 @@ of-bytes false ps = write-aad ps
 pub of-exact : (mode : Mode) (b : Bool) (n : ℕ) → Exact (source-read-aad-of mode b n) (OfOk mode n b) (of-bytes b) aad-at
 unfolding source-read-aad-of OfOk of-bytes puts
 of-exact mode true n = revalue (OfOk mode n true) (of-bytes true) aad-at (give-exact []) (λ w o. ([], refl, refl, λ s. refl)) (λ ps o. (tt, tt, refl, λ s. rw o refl))
-of-exact mode false n = framed-exact n 14 (λ e. aad-exact mode n)
+of-exact mode false n = enclosed-exact n 14 (λ e. aad-exact mode n)
 
 -- a context with the form that it is written in
 pub record Context : Type 0 where

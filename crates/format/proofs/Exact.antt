@@ -8,7 +8,7 @@ use native.Mathlib.Omega.{arith}
 use native.Mathlib.Nat.{add-assoc, add-zero}
 use lib.Dec.{leb, eqb}
 use lib.ListN.{length, length-append}
-use Rattle.format.specs.Read.{ReadResult, success, more-needed, error, Reader, go-on, _>>=_, _>>_, return, test, End, no-end, end-at, held, repeat, framed}
+use Rattle.format.specs.Read.{ReadResult, success, more-needed, error, Reader, go-on, _>>=_, _>>_, return, test, End, no-end, end-at, held, repeat, enclosed}
 use Rattle.format.specs.Serialize.{Bytes, images}
 use Rattle.format.proofs.Tests.{leb-is, nleb-is, is-leb, is-nleb, eqb-is, is-eqb}
 
@@ -162,20 +162,20 @@ module _ {A : Type 0} (e n : ℕ) (q : Reader A) (l : List ℕ) (s : ℕ) where
 
 -- n bytes that are there as a whole, and a reader that ends where they do
 module _ {A : Type 0} where
-  pub framed-fits : (n k : ℕ) (r : End → Reader A) (l : List ℕ) (s : ℕ) → n ≤ length l
-      → framed n k r l s ≡ (r (end-at (s + n)) >>= λ a l′ t. go-on (test k (eqb t (s + n)) l′ t) (λ u. return a)) l s
-  unfolding framed
-  framed-fits n k r l s h = rw (leb-is n (length l) h, framed)
+  pub enclosed-fits : (n k : ℕ) (r : End → Reader A) (l : List ℕ) (s : ℕ) → n ≤ length l
+      → enclosed n k r l s ≡ (r (end-at (s + n)) >>= λ a l′ t. go-on (test k (eqb t (s + n)) l′ t) (λ u. return a)) l s
+  unfolding enclosed
+  enclosed-fits n k r l s h = rw (leb-is n (length l) h, enclosed)
 
-  pub framed-short : (n k : ℕ) (r : End → Reader A) (l : List ℕ) (s : ℕ) → length l < n → framed n k r l s ≡ more-needed (s + n)
-  unfolding framed
-  framed-short n k r l s h = rw (nleb-is n (length l) h, framed)
+  pub enclosed-short : (n k : ℕ) (r : End → Reader A) (l : List ℕ) (s : ℕ) → length l < n → enclosed n k r l s ≡ more-needed (s + n)
+  unfolding enclosed
+  enclosed-short n k r l s h = rw (nleb-is n (length l) h, enclosed)
 
 module _ {A W : Type 0} where
-  framed-sound : (n k : ℕ) (r : End → Reader A) (ok : W → Type 0) (img : W → List ℕ) (put : ℕ → W → A) → ((e : End) → Exact (r e) ok img put) → (l : List ℕ) (s : ℕ) (a : A) (l′ : List ℕ) (t : ℕ) → Bytes l
-      → framed n k r l s ≡ success a l′ t → Took (λ w. ok w × (length (img w) ≡ n)) img put l s a l′ t
+  enclosed-sound : (n k : ℕ) (r : End → Reader A) (ok : W → Type 0) (img : W → List ℕ) (put : ℕ → W → A) → ((e : End) → Exact (r e) ok img put) → (l : List ℕ) (s : ℕ) (a : A) (l′ : List ℕ) (t : ℕ) → Bytes l
+      → enclosed n k r l s ≡ success a l′ t → Took (λ w. ok w × (length (img w) ≡ n)) img put l s a l′ t
   unfolding _>>=_ test return
-  framed-sound n k r ok img put hr l s a l′ t hb e = go (leb n (length l)) refl
+  enclosed-sound n k r ok img put hr l s a l′ t hb e = go (leb n (length l)) refl
     where
       last : (a₁ : A) (l₁ : List ℕ) (t₁ : ℕ) → Took ok img put l s a₁ l₁ t₁ → (b : Bool) → eqb t₁ (s + n) ≡ b → go-on (test k b l₁ t₁) (λ u. return a₁) ≡ success a l′ t
           → Took (λ w. ok w × (length (img w) ≡ n)) img put l s a l′ t
@@ -195,19 +195,19 @@ module _ {A W : Type 0} where
       mid (error p) e₁ e₂ = error-is-no-success e₂
 
       go : (b : Bool) → leb n (length l) ≡ b → Took (λ w. ok w × (length (img w) ≡ n)) img put l s a l′ t
-      go true h = mid (r (end-at (s + n)) l s) refl (sym (framed-fits n k r l s (is-leb n (length l) h)) ∙ e)
-      go false h = more-is-no-success (sym (framed-short n k r l s (is-nleb n (length l) h)) ∙ e)
+      go true h = mid (r (end-at (s + n)) l s) refl (sym (enclosed-fits n k r l s (is-leb n (length l) h)) ∙ e)
+      go false h = more-is-no-success (sym (enclosed-short n k r l s (is-nleb n (length l) h)) ∙ e)
 
-  pub framed-exact : (n k : ℕ) {r : End → Reader A} {ok : W → Type 0} {img : W → List ℕ} {put : ℕ → W → A} → ((e : End) → Exact (r e) ok img put)
-      → Exact (framed n k r) (λ w. ok w × (length (img w) ≡ n)) img put
+  pub enclosed-exact : (n k : ℕ) {r : End → Reader A} {ok : W → Type 0} {img : W → List ℕ} {put : ℕ → W → A} → ((e : End) → Exact (r e) ok img put)
+      → Exact (enclosed n k r) (λ w. ok w × (length (img w) ≡ n)) img put
   unfolding _>>=_ test return
-  framed-exact n k {r} {ok} {img} {put} hr =
+  enclosed-exact n k {r} {ok} {img} {put} hr =
       record {
-        sound = framed-sound n k r ok img put hr;
+        sound = enclosed-sound n k r ok img put hr;
         complete = λ w s l o.
             let d : length (img w) ≡ n = o .1 in
             rw (
-              framed-fits n k r (img w ++ l) s (simp length-append (omega arith)),
+              enclosed-fits n k r (img w ++ l) s (simp length-append (omega arith)),
               hr (end-at (s + n)) .complete w s l (o .0),
               eqb-is (s + length (img w)) (s + n) (omega arith),
             )

@@ -19,7 +19,7 @@ use Rattle.format.specs.Keys.{Max, read-encrypted-data-key, read-encrypt
 use Rattle.format.specs.Places.{number-here, number8, number16, number32, part-of, entry-here, entry-end, items-end, pair-here, pair-end, pairs-here, pairs-end, key-here, key-end, section-pairs, section-form, section-keys, section-keys-end}
 use Rattle.format.specs.First.{Line, lacks, when, unless, entry-list, each-list, pair-list, context-list-of, context-list, key-list, keys-list, context-into-list, keys-into-list}
 use Rattle.format.proofs.Tests.{never, leb-is, nleb-is, is-leb, is-nleb, eqb-is, is-eqb, eqb-shift}
-use Rattle.format.proofs.Lines.{first-line, one-none, join-none, behind-line, behind-list, Goes, goes-as, return-goes, bind-goes, test-goes, not-goes, held-goes, read-goes, repeat-goes, framed-goes, stopped}
+use Rattle.format.proofs.Lines.{first-line, one-none, join-none, behind-line, behind-list, Goes, goes-as, return-goes, bind-goes, test-goes, not-goes, held-goes, read-goes, repeat-goes, enclosed-goes, stopped}
 
 -- the numbers of 1, 2 and 4 bytes, byte by byte
 module _ (m : List ℕ) (s : ℕ) where
@@ -135,7 +135,7 @@ context-of-goes : (mode : Mode) (b : Bool) (n : ℕ) → Goes (read-aad-of mode 
 unfolding read-aad-of read-aad read-aad-by context-list-of
 context-of-goes mode true n = return-goes []
 context-of-goes mode false n =
-    goes-as (framed-goes n 14 (read-aad mode n) (λ e. held-goes (end-at e) 2 (bind-goes uint16-goes (λ count. test-goes _ _ (test-goes _ _ (test-goes _ _ (repeat-goes (pair-goes e) count [])))))))
+    goes-as (enclosed-goes n 14 (read-aad mode n) (λ e. held-goes (end-at e) 2 (bind-goes uint16-goes (λ count. test-goes _ _ (test-goes _ _ (test-goes _ _ (repeat-goes (pair-goes e) count [])))))))
     (λ m s. in-words (eqb n 2) (eqb (number16 m s) 0) (is-strict mode) _ _ _ _ ∙ ends-early n m s _ _ _)
     (λ m s e. (refl, refl))
 

@@ -8,13 +8,13 @@ use Prim.Native.Nat.{ℕ, zero, suc, _+_, _≤_, _<_}
 use native.Mathlib.Omega.{arith}
 use lib.Dec.{leb, eqb}
 use lib.ListN.{length, drop, length-drop}
-use Rattle.format.specs.Read.{ReadResult, success, more-needed, error, Reader, go-on, _>>=_, _>>_, return, test, end-at, held, repeat, framed, Answer, refused, answer, at, operation}
+use Rattle.format.specs.Read.{ReadResult, success, more-needed, error, Reader, go-on, _>>=_, _>>_, return, test, end-at, held, repeat, enclosed, Answer, refused, answer, at, operation}
 use Rattle.format.specs.Serialize.{read, read-uint, read-uint16, read-short-length-seq}
 use Rattle.format.specs.Fields.{PairAt}
 use Rattle.format.specs.Context.{Mode, read-text, read-aad-pair, read-next-aad-pair, read-aad-by, read-aad, read-aad-of, read-aad-section, read-aad-section-into}
 use Rattle.format.specs.Places.{number16, entry-end}
 use Rattle.format.proofs.Tests.{is-leb, is-nleb}
-use Rattle.format.proofs.Exact.{held-fits, held-past, framed-fits, framed-short}
+use Rattle.format.proofs.Exact.{held-fits, held-past, enclosed-fits, enclosed-short}
 use Rattle.format.proofs.Serialize.{read-fits, read-short}
 use Rattle.format.proofs.Takes.{uint16-size}
 use Rattle.format.proofs.Lines.{goes-accepted}
@@ -128,13 +128,13 @@ unfolding read-aad-of return _>>=_ _>>_
 of-asks mode true n l s = tt
 of-asks mode false n l s = by (leb n (length l)) refl
   where
-    by : (b : Bool) → leb n (length l) ≡ b → Asks (λ p. p ≡ s + n) (framed n 14 (read-aad mode n) l s)
+    by : (b : Bool) → leb n (length l) ≡ b → Asks (λ p. p ≡ s + n) (enclosed n 14 (read-aad mode n) l s)
     by true h =
         let k : n ≤ length l = is-leb _ _ h in
-        rw (framed-fits n 14 (read-aad mode n) l s k)
+        rw (enclosed-fits n 14 (read-aad mode n) l s k)
         (asks-on (λ p. p ≡ s + n) (λ a l′ t. go-on (test 14 (eqb t (s + n)) l′ t) (λ u. return a)) (λ a l′ t. tested (λ p. p ≡ s + n) 14 (eqb t (s + n)) a l′ t) (read-aad mode n (end-at (s + n)) l s)
         (full-asks (λ p. p ≡ s + n) (s + n) (read-aad mode n (end-at (s + n)) l s) (aad-reaches (s + n) mode n .full l s (omega arith))))
-    by false h = rw (framed-short n 14 (read-aad mode n) l s (is-nleb _ _ h)) refl
+    by false h = rw (enclosed-short n 14 (read-aad mode n) l s (is-nleb _ _ h)) refl
 
 module _ (mode : Mode) (m : List ℕ) (s : ℕ) where
   abbrev Helps : ℕ → Type 0

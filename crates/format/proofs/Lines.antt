@@ -1,5 +1,5 @@
 -- A reader goes by a list of lines: where none applies it gives what stands there, and otherwise it refuses by the first that does.
--- The judgement composes as readers do: sequence, test, counted repetition, a framed section. Assumes nothing.
+-- The judgement composes as readers do: sequence, test, counted repetition, an enclosed section. Assumes nothing.
 use mathlib.Core.Path.{_≡_, refl, sym, ap, _∙_}
 use mathlib.Core.Bool.{Bool, true, false, not, _&&_, false≢true}
 use mathlib.Core.Logic.{_⊎_, inl, inr, ⊎-elim}
@@ -10,12 +10,12 @@ use native.Mathlib.Omega.{arith}
 use lib.Dec.{leb, ltb, eqb}
 use lib.ListN.{length, drop, length-drop}
 use lib.Seq.{drop-drop}
-use Rattle.format.specs.Read.{ReadResult, success, more-needed, error, Reader, go-on, _>>=_, _>>_, return, test, End, no-end, end-at, held, repeat, framed, Answer, accepted, refused, answer, at}
+use Rattle.format.specs.Read.{ReadResult, success, more-needed, error, Reader, go-on, _>>=_, _>>_, return, test, End, no-end, end-at, held, repeat, enclosed, Answer, accepted, refused, answer, at}
 use Rattle.format.specs.Serialize.{Part, read, every}
 use Rattle.format.specs.Places.{part-of, items-here, items-end}
 use Rattle.format.specs.First.{Line, lacks, when, unless, held-list, NoneApplies, FirstApplies, each-list}
 use Rattle.format.proofs.Tests.{is-leb, is-nleb, is-eqb, eqb-is}
-use Rattle.format.proofs.Exact.{framed-fits, framed-short}
+use Rattle.format.proofs.Exact.{enclosed-fits, enclosed-short}
 use Rattle.format.proofs.Serialize.{read-fits, read-short}
 use Rattle.format.proofs.Firsts.{both, and}
 
@@ -212,16 +212,16 @@ module _ {A : Type 0} where
   repeat-goes {here = here} {end = end} h (suc n) acc =
       goes-as (bind-goes (h acc) (λ a. repeat-goes h n (acc ++ (a ∷ [])))) (λ m s. refl) (λ m s e. (append-assoc acc (here m s ∷ []) (items-here here end m n (end m s)), refl))
 
-  framed-inside : (n k : ℕ) (r : End → Reader A) {list : ℕ → List ℕ → ℕ → List Line} {value : List ℕ → ℕ → A} {end : List ℕ → ℕ → ℕ} → ((e : ℕ) → Goes (r (end-at e)) (list e) value end)
-      → Goes (framed n k r) (λ m s. lacks n m s ∷ (list (s + n) m s ++ (unless k (eqb (end m s) (s + n)) ∷ []))) value end
+  enclosed-inside : (n k : ℕ) (r : End → Reader A) {list : ℕ → List ℕ → ℕ → List Line} {value : List ℕ → ℕ → A} {end : List ℕ → ℕ → ℕ} → ((e : ℕ) → Goes (r (end-at e)) (list e) value end)
+      → Goes (enclosed n k r) (λ m s. lacks n m s ∷ (list (s + n) m s ++ (unless k (eqb (end m s) (s + n)) ∷ []))) value end
   unfolding first-line test return _>>=_
-  framed-inside n k r {list} {value} {end} h =
+  enclosed-inside n k r {list} {value} {end} h =
       record {
         passes = λ m s e.
             let last = unless k (eqb (end m s) (s + n)) in
             let (f, e′) = one-none (lacks n m s) (list (s + n) m s ++ (last ∷ [])) e in
             let (e₁, e₂) = join-none (list (s + n) m s) (last ∷ []) e′ in
-            rw (framed-fits n k r (drop s m) s (fits m s (is-nleb _ _ f)), h (s + n) .passes m s e₁) (ended m s (eqb (end m s) (s + n)) (one-none last [] e₂ .0));
+            rw (enclosed-fits n k r (drop s m) s (fits m s (is-nleb _ _ f)), h (s + n) .passes m s e₁) (ended m s (eqb (end m s) (s + n)) (one-none last [] e₂ .0));
         stops = λ m s x e. by m s x (ltb (length m - s) n) refl e;
       }
     where
@@ -239,24 +239,24 @@ module _ {A : Type 0} where
       wrong m s x false q = let z : unless k false ≡ x = cc in rw (← z) refl
 
       inside : (m : List ℕ) (s : ℕ) (x : Line) → n ≤ length (drop s m) → first-line (list (s + n) m s ++ (unless k (eqb (end m s) (s + n)) ∷ [])) ≡ some x
-          → answer (framed n k r (drop s m) s) ≡ refused (x .number) (x .position)
-      inside m s x f e = rw (framed-fits n k r (drop s m) s f)
+          → answer (enclosed n k r (drop s m) s) ≡ refused (x .number) (x .position)
+      inside m s x f e = rw (enclosed-fits n k r (drop s m) s f)
           (⊎-elim (λ e₁. stopped _ (x .number) (x .position) (r (end-at (s + n)) (drop s m) s) (h (s + n) .stops m s x e₁))
           (λ e₁. rw (h (s + n) .passes m s (e₁ .0)) (wrong m s x (eqb (end m s) (s + n)) (e₁ .1))) (join-some (list (s + n) m s) _ x e))
 
       by : (m : List ℕ) (s : ℕ) (x : Line) (b : Bool) → ltb (length m - s) n ≡ b → by-applies b (lacks n m s) (first-line (list (s + n) m s ++ (unless k (eqb (end m s) (s + n)) ∷ []))) ≡ some x
-          → answer (framed n k r (drop s m) s) ≡ refused (x .number) (x .position)
+          → answer (enclosed n k r (drop s m) s) ≡ refused (x .number) (x .position)
       by m s x true q e =
           let g : length m - s < n = is-leb _ _ q in
           let z : lacks n m s ≡ x = cc in
-          rw (framed-short n k r (drop s m) s (simp length-drop (omega arith)), ← z) refl
+          rw (enclosed-short n k r (drop s m) s (simp length-drop (omega arith)), ← z) refl
       by m s x false q e = inside m s x (fits m s (is-nleb _ _ q)) e
 
   -- bytes that have to be there as a whole, and a reader that ends where they do
-  pub framed-goes : (n k : ℕ) (r : End → Reader A) {list : ℕ → List ℕ → ℕ → List Line} {value : List ℕ → ℕ → A} {end : List ℕ → ℕ → ℕ} → ((e : ℕ) → Goes (r (end-at e)) (list e) value end)
-      → Goes (framed n k r) (λ m s. lacks n m s ∷ (list (s + n) m s ++ (unless k (eqb (end m s) (s + n)) ∷ []))) value (λ m s. s + n)
-  framed-goes n k r {list = list} {end = end} h =
-      goes-as (framed-inside n k r h) (λ m s. refl)
+  pub enclosed-goes : (n k : ℕ) (r : End → Reader A) {list : ℕ → List ℕ → ℕ → List Line} {value : List ℕ → ℕ → A} {end : List ℕ → ℕ → ℕ} → ((e : ℕ) → Goes (r (end-at e)) (list e) value end)
+      → Goes (enclosed n k r) (λ m s. lacks n m s ∷ (list (s + n) m s ++ (unless k (eqb (end m s) (s + n)) ∷ []))) value (λ m s. s + n)
+  enclosed-goes n k r {list = list} {end = end} h =
+      goes-as (enclosed-inside n k r h) (λ m s. refl)
       (λ m s e.
       let last = unless k (eqb (end m s) (s + n)) in
       let (e₁, e₂) = join-none (list (s + n) m s) (last ∷ []) (one-none (lacks n m s) (list (s + n) m s ++ (last ∷ [])) e .1) in

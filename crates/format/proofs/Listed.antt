@@ -18,7 +18,7 @@ use Rattle.format.specs.OnlyAuthenticated.{fitting, write-only-authentic
 use Rattle.format.specs.Refusals.{section-refusals, context-refusals, find-refusals, only-authenticated-refusals, opening-refusals, reserved-refusals, frame-refusals, closing-refusals, keys-refusals, body-refusals, auth-refusals, Refusal, RefusesBy, Refusals}
 use Rattle.format.proofs.Tests.{is-eqb}
 use Rattle.format.proofs.Members.{has, has-neither, no-member}
-use Rattle.format.proofs.ListedLaws.{Fine, Listed, listed-as, also, bind-listed, then-listed, return-listed, sure-listed, test-listed, held-refusals, held-listed, read-listed, repeat-listed, framed-listed, Gives, return-gives, bind-gives, passed-listed, passed-gives, given-listed, marked-listed}
+use Rattle.format.proofs.ListedLaws.{Fine, Listed, listed-as, also, bind-listed, then-listed, return-listed, sure-listed, test-listed, held-refusals, held-listed, read-listed, repeat-listed, enclosed-listed, Gives, return-gives, bind-gives, passed-listed, passed-gives, given-listed, marked-listed}
 use Rattle.format.proofs.Messages.{cases}
 
 -- the leaves
@@ -80,8 +80,8 @@ aad-listed strict n e =
 of-listed : (mode : Mode) (b : Bool) (n : ℕ) → Listed (section-refusals mode) (read-aad-of mode b n)
 unfolding read-aad-of return section-refusals
 of-listed mode true n = record { fine = λ l s. refl }
-of-listed tolerant false n = framed-listed n 14 (read-aad tolerant n) (aad-listed tolerant n)
-of-listed strict false n = framed-listed n 14 (read-aad strict n) (aad-listed strict n)
+of-listed tolerant false n = enclosed-listed n 14 (read-aad tolerant n) (aad-listed tolerant n)
+of-listed strict false n = enclosed-listed n 14 (read-aad strict n) (aad-listed strict n)
 
 section-listed : (mode : Mode) → Listed (section-refusals mode) (read-aad-section mode)
 unfolding read-aad-section

@@ -1,4 +1,4 @@
--- Which refusals a reader can answer, as a judgement that composes: sequence, test, counted repetition, a framed section. Assumes nothing.
+-- Which refusals a reader can answer, as a judgement that composes: sequence, test, counted repetition, an enclosed section. Assumes nothing.
 use mathlib.Core.Path.{_≡_, refl}
 use mathlib.Core.Bool.{Bool, true, false}
 use mathlib.Core.Logic.{⊎-elim}
@@ -7,13 +7,13 @@ use Prim.Native.Nat.{ℕ, zero, suc, _+_, _≤_, _<_}
 use native.Mathlib.Omega.{arith}
 use lib.Dec.{leb, eqb}
 use lib.ListN.{length, length-drop}
-use Rattle.format.specs.Read.{ReadResult, success, more-needed, error, Reader, go-on, _>>=_, _>>_, return, test, End, no-end, end-at, held, repeat, framed}
+use Rattle.format.specs.Read.{ReadResult, success, more-needed, error, Reader, go-on, _>>=_, _>>_, return, test, End, no-end, end-at, held, repeat, enclosed}
 use Rattle.format.specs.Serialize.{read}
 use Rattle.format.specs.Fields.{PairAt}
 use Rattle.format.specs.Context.{mark, with-mark}
 use Rattle.format.proofs.Tests.{is-leb, is-nleb}
 use Rattle.format.proofs.Members.{has-all, members}
-use Rattle.format.proofs.Exact.{framed-fits, framed-short, more-is-no-success, error-is-no-success}
+use Rattle.format.proofs.Exact.{enclosed-fits, enclosed-short, more-is-no-success, error-is-no-success}
 use Rattle.format.proofs.Serialize.{read-fits, read-short}
 
 -- of a reader that had the bytes up to the place n: where it succeeds those behind its tail are left, what it wants lies
@@ -104,12 +104,12 @@ module _ {A : Type 0} where
       go true l t = refl
       go false l t = List·Memᴰ·head refl
 
-  pub framed-listed : (n k : ℕ) {ks : List ℕ} (r : End → Reader A) → ((e : ℕ) → Listed ks (r (end-at e))) → Listed (ks ++ (k ∷ [])) (framed n k r)
-  framed-listed n k {ks} r hr = record { fine = λ l s. go l s (leb n (length l)) refl }
+  pub enclosed-listed : (n k : ℕ) {ks : List ℕ} (r : End → Reader A) → ((e : ℕ) → Listed ks (r (end-at e))) → Listed (ks ++ (k ∷ [])) (enclosed n k r)
+  enclosed-listed n k {ks} r hr = record { fine = λ l s. go l s (leb n (length l)) refl }
     where
-      go : (l : List ℕ) (s : ℕ) (b : Bool) → leb n (length l) ≡ b → Fine (ks ++ (k ∷ [])) (s + length l) (framed n k r l s)
-      go l s true e = rw (framed-fits n k r l s (is-leb _ _ e)) (bind-listed (hr (s + n)) (end-listed s n k) .fine l s)
-      go l s false e = let h : length l < n = is-nleb _ _ e in rw (framed-short n k r l s h) (omega arith)
+      go : (l : List ℕ) (s : ℕ) (b : Bool) → leb n (length l) ≡ b → Fine (ks ++ (k ∷ [])) (s + length l) (enclosed n k r l s)
+      go l s true e = rw (enclosed-fits n k r l s (is-leb _ _ e)) (bind-listed (hr (s + n)) (end-listed s n k) .fine l s)
+      go l s false e = let h : length l < n = is-nleb _ _ e in rw (enclosed-short n k r l s h) (omega arith)
 
 -- what a reader gives, where it succeeds, is good
 pub record Gives {A : Type 0} (good : A → Type 0) (r : Reader A) : Type 0 where

@@ -7,11 +7,11 @@ use Prim.Native.Nat.{ℕ, _+_, _<_}
 use native.Mathlib.Omega.{arith}
 use lib.Dec.{leb, eqb}
 use lib.ListN.{length}
-use Rattle.format.specs.Read.{ReadResult, success, more-needed, error, Reader, go-on, _>>=_, _>>_, return, test, End, end-at, held, framed}
+use Rattle.format.specs.Read.{ReadResult, success, more-needed, error, Reader, go-on, _>>=_, _>>_, return, test, End, end-at, held, enclosed}
 use Rattle.format.specs.Context.{Mode, read-aad-by, read-aad, read-aad-of, read-aad-section}
 use Rattle.format.specs.Source.{source-read-next-aad-pair, source-read-aad-of}
 use Rattle.format.proofs.Tests.{is-leb, is-nleb, neqb-is}
-use Rattle.format.proofs.Exact.{Exact, framed-fits, framed-short, error-is-no-success}
+use Rattle.format.proofs.Exact.{Exact, enclosed-fits, enclosed-short, error-is-no-success}
 use Rattle.format.proofs.Context.{ContextOk, context-bytes, context-at, of-exact, section-exact-by}
 use Rattle.format.proofs.Takes.{Past}
 use Rattle.format.proofs.Compared.{Compared, aad-compared}
@@ -28,9 +28,9 @@ Alike x y = (x ≡ y) ⊎ ((x ≡ error 32) × Refuses y)
 
 -- what runs past the section does not end where the section does
 module _ {A : Type 0} (n k : ℕ) (r r′ : End → Reader A) (l : List ℕ) (s : ℕ) where
-  framed-alike : Compared (s + n) (r (end-at (s + n)) l s) (r′ (end-at (s + n)) l s) → Alike (framed n k r l s) (framed n k r′ l s)
+  enclosed-alike : Compared (s + n) (r (end-at (s + n)) l s) (r′ (end-at (s + n)) l s) → Alike (enclosed n k r l s) (enclosed n k r′ l s)
   unfolding _>>=_ test return
-  framed-alike c = by (leb n (length l)) refl
+  enclosed-alike c = by (leb n (length l)) refl
     where
       ended : A → Reader A
       ended a l′ t = go-on (test k (eqb t (s + n)) l′ t) (λ u. return a)
@@ -44,15 +44,15 @@ module _ {A : Type 0} (n k : ℕ) (r r′ : End → Reader A) (l : List ℕ) (s 
       inner x y (inl (q, i)) = inl (rw q refl)
       inner x y (inr (q, p)) = inr (rw q refl, late y p)
 
-      by : (b : Bool) → leb n (length l) ≡ b → Alike (framed n k r l s) (framed n k r′ l s)
-      by true h = let g = is-leb n (length l) h in rw (framed-fits n k r l s g, framed-fits n k r′ l s g) (inner _ _ c)
-      by false h = let g = is-nleb n (length l) h in inl (framed-short n k r l s g ∙ sym (framed-short n k r′ l s g))
+      by : (b : Bool) → leb n (length l) ≡ b → Alike (enclosed n k r l s) (enclosed n k r′ l s)
+      by true h = let g = is-leb n (length l) h in rw (enclosed-fits n k r l s g, enclosed-fits n k r′ l s g) (inner _ _ c)
+      by false h = let g = is-nleb n (length l) h in inl (enclosed-short n k r l s g ∙ sym (enclosed-short n k r′ l s g))
 
 -- what follows a section's length, which has two bytes
 pub of-alike : (mode : Mode) (b : Bool) (n : ℕ) → n < 65536 → (l : List ℕ) (s : ℕ) → Alike (read-aad-of mode b n l s) (source-read-aad-of mode b n l s)
 unfolding read-aad-of source-read-aad-of held test _>>_
 of-alike mode true n few l s = inl refl
-of-alike mode false n few l s = framed-alike n 14 (read-aad mode n) (λ e. read-aad-by source-read-next-aad-pair mode n) l s (aad-compared (s + n) mode n l s (omega arith))
+of-alike mode false n few l s = enclosed-alike n 14 (read-aad mode n) (λ e. read-aad-by source-read-next-aad-pair mode n) l s (aad-compared (s + n) mode n l s (omega arith))
 
 -- so what is accepted is the same
 alike-exact : {A W : Type 0} {r r′ : Reader A} {ok : W → Type 0} {img : W → List ℕ} {put : ℕ → W → A} → ((l : List ℕ) (s : ℕ) → Alike (r l s) (r′ l s)) → Exact r′ ok img put → Exact r ok img put

@@ -12,7 +12,7 @@ use Rattle.format.specs.Body.{Request}
 use Rattle.format.specs.Refusals.{opening-refusals, closing-refusals}
 use Rattle.format.specs.Source.{source-read-next-aad-pair, source-read-aad-of, source-read-aad-section, source-read-aad-section-into, source-find-value, source-write-only-authenticated, source-after-opening, source-read-body}
 use Rattle.format.proofs.Members.{has, no-member}
-use Rattle.format.proofs.ListedLaws.{Listed, listed-as, bind-listed, then-listed, return-listed, test-listed, repeat-listed, framed-listed}
+use Rattle.format.proofs.ListedLaws.{Listed, listed-as, bind-listed, then-listed, return-listed, test-listed, repeat-listed, enclosed-listed}
 use Rattle.format.proofs.Listed.{uint16-listed, look-listed, pair-listed, body-listed-by, refuses, body-without-2, body-without-32}
 
 next-listed : (acc : List PairAt) → Listed (10 ∷ 11 ∷ 12 ∷ 13 ∷ []) (source-read-next-aad-pair acc)
@@ -29,7 +29,7 @@ section = 8 ∷ 21 ∷ 9 ∷ 10 ∷ 11 ∷ 12 ∷ 13 ∷ 14 ∷ []
 of-listed : (mode : Mode) (b : Bool) (n : ℕ) → Listed section (source-read-aad-of mode b n)
 unfolding source-read-aad-of
 of-listed mode true n = listed-as section refl (return-listed [])
-of-listed mode false n = framed-listed n 14 (λ e. read-aad-by source-read-next-aad-pair mode n) (λ e. aad-listed mode n)
+of-listed mode false n = enclosed-listed n 14 (λ e. read-aad-by source-read-next-aad-pair mode n) (λ e. aad-listed mode n)
 
 section-listed : (mode : Mode) → Listed section (source-read-aad-section mode)
 unfolding source-read-aad-section

@@ -6,7 +6,7 @@ use Prim.Native.Nat.{ℕ, suc, _+_, _*_, _≤_, _<_}
 use native.Mathlib.Omega.{arith}
 use lib.Dec.{leb, eqb}
 use lib.ListN.{length, take, drop, length-append}
-use Rattle.format.specs.Read.{ReadResult, success, more-needed, error, Reader, go-on, _>>=_, _>>_, return, test, end-at, framed, Answer, accepted, refused, answer, at, operation}
+use Rattle.format.specs.Read.{ReadResult, success, more-needed, error, Reader, go-on, _>>=_, _>>_, return, test, end-at, enclosed, Answer, accepted, refused, answer, at, operation}
 use Rattle.format.specs.Serialize.{Bytes, read-uint, read-uint16, write-uint16, same-bytes}
 use Rattle.format.specs.Shared.{by}
 use Rattle.format.specs.Fields.{PairAt, HeaderBody}
@@ -16,7 +16,7 @@ use Rattle.format.specs.Body.{Which, tests-frames, Opening, read-opening
 use Rattle.format.specs.Lent.{bytes-at, table-after, pair-table-after, key-table-after, pair-numbers, key-numbers}
 use Rattle.format.specs.Demand3.{old-empty, reached-old, reaches-old, Sentence2}
 use Rattle.format.proofs.Tests.{is-eqb, eqb-is, neqb-is}
-use Rattle.format.proofs.Exact.{Took, held-fits, framed-fits, framed-short}
+use Rattle.format.proofs.Exact.{Took, held-fits, enclosed-fits, enclosed-short}
 use Rattle.format.proofs.Serialize.{read-fits, read-short, length-uint16}
 use Rattle.format.proofs.Ends.{Top, TopOk, Rest, RestOk, top-bytes, top-at, v1-of, opening-exact}
 use Rattle.format.proofs.Messages.{accepted-took, rest-is, cases, operation-here, bytes-drop}
@@ -41,20 +41,20 @@ of-same n e true = refl
 of-same n e false = rw (aad-same n e) refl
 
 -- a section of length 2: 8 unless the count is 0, and then 21 where it is strict
-framed-two : (mode : Mode) (c d : ℕ) (l : List ℕ) (s : ℕ) → framed 2 14 (read-aad mode 2) (c ∷ d ∷ l) s
+enclosed-two : (mode : Mode) (c d : ℕ) (l : List ℕ) (s : ℕ) → enclosed 2 14 (read-aad mode 2) (c ∷ d ∷ l) s
     ≡ (read-aad-by (read-next-aad-pair (end-at (s + 2))) mode 2 >>= λ a l′ t. go-on (test 14 (eqb t (s + 2)) l′ t) (λ u. return a)) (c ∷ d ∷ l) s
 unfolding read-aad _>>=_
-framed-two mode c d l s =
-    framed-fits 2 14 (read-aad mode 2) (c ∷ d ∷ l) s (omega arith)
+enclosed-two mode c d l s =
+    enclosed-fits 2 14 (read-aad mode 2) (c ∷ d ∷ l) s (omega arith)
     ∙ ap (λ x. go-on x (λ a l′ t. go-on (test 14 (eqb t (s + 2)) l′ t) (λ u. return a))) (held-fits (s + 2) 2 _ (c ∷ d ∷ l) s (omega arith))
 
-two-eight : (mode : Mode) (c d : ℕ) (l : List ℕ) (s : ℕ) → eqb (c * 256 + d) 0 ≡ false → framed 2 14 (read-aad mode 2) (c ∷ d ∷ l) s ≡ error 8
+two-eight : (mode : Mode) (c d : ℕ) (l : List ℕ) (s : ℕ) → eqb (c * 256 + d) 0 ≡ false → enclosed 2 14 (read-aad mode 2) (c ∷ d ∷ l) s ≡ error 8
 unfolding read-aad-by _>>=_ _>>_ test
-two-eight mode c d l s e = rw (framed-two mode c d l s, two-bytes c d l s, e) refl
+two-eight mode c d l s e = rw (enclosed-two mode c d l s, two-bytes c d l s, e) refl
 
-two-strict : (c d : ℕ) (l : List ℕ) (s : ℕ) → eqb (c * 256 + d) 0 ≡ true → framed 2 14 (read-aad strict 2) (c ∷ d ∷ l) s ≡ error 21
+two-strict : (c d : ℕ) (l : List ℕ) (s : ℕ) → eqb (c * 256 + d) 0 ≡ true → enclosed 2 14 (read-aad strict 2) (c ∷ d ∷ l) s ≡ error 21
 unfolding read-aad-by _>>=_ _>>_ test
-two-strict c d l s e = rw (framed-two strict c d l s, two-bytes c d l s, e) refl
+two-strict c d l s e = rw (enclosed-two strict c d l s, two-bytes c d l s, e) refl
 
 -- two bytes make a number below 256 just where the first is 0
 high-zero : (n a b : ℕ) → n < 256 → eqb (a * 256 + b) n ≡ false → (eqb a 0 && eqb b n) ≡ false
@@ -103,15 +103,15 @@ section-short mode l s h = rw (too-short l s h) refl
 Alike : List ℕ → ℕ → Type 0
 Alike l s = read-aad-section strict l s ≡ cond (old-empty l) (error 21) (read-aad-section tolerant l s)
 
-framed-two-short : (mode : Mode) (l : List ℕ) (s : ℕ) → length l < 2 → framed 2 14 (read-aad mode 2) l s ≡ more-needed (s + 2)
-framed-two-short mode l s h = framed-short 2 14 (read-aad mode 2) l s h
+enclosed-two-short : (mode : Mode) (l : List ℕ) (s : ℕ) → length l < 2 → enclosed 2 14 (read-aad mode 2) l s ≡ more-needed (s + 2)
+enclosed-two-short mode l s h = enclosed-short 2 14 (read-aad mode 2) l s h
 
 strict-two : (l : List ℕ) (s : ℕ) → Alike (0 ∷ 2 ∷ l) s
 unfolding Alike read-aad-of same-bytes
-strict-two [] s = rw (section-front strict 0 2 [] s, section-front tolerant 0 2 [] s, framed-two-short strict [] (s + 2) (omega arith), framed-two-short tolerant [] (s + 2) (omega arith)) refl
+strict-two [] s = rw (section-front strict 0 2 [] s, section-front tolerant 0 2 [] s, enclosed-two-short strict [] (s + 2) (omega arith), enclosed-two-short tolerant [] (s + 2) (omega arith)) refl
 strict-two (c ∷ []) s =
     let h : length (c ∷ []) < 2 = omega arith in
-    rw (section-front strict 0 2 (c ∷ []) s, section-front tolerant 0 2 (c ∷ []) s, framed-two-short strict (c ∷ []) (s + 2) h, framed-two-short tolerant (c ∷ []) (s + 2) h)
+    rw (section-front strict 0 2 (c ∷ []) s, section-front tolerant 0 2 (c ∷ []) s, enclosed-two-short strict (c ∷ []) (s + 2) h, enclosed-two-short tolerant (c ∷ []) (s + 2) h)
     (both (eqb c 0))
   where
     both : (x : Bool) → more-needed (s + 2 + 2) ≡ cond {A = ReadResult (List PairAt)} (x && false) (error 21) (more-needed (s + 2 + 2))
@@ -119,7 +119,7 @@ strict-two (c ∷ []) s =
     both false = refl
 strict-two (c ∷ d ∷ l) s = rw (section-front strict 0 2 (c ∷ d ∷ l) s, section-front tolerant 0 2 (c ∷ d ∷ l) s, four-bytes 0 2 c d l) (go (eqb (c * 256 + d) 0) refl)
   where
-    go : (b : Bool) → eqb (c * 256 + d) 0 ≡ b → framed 2 14 (read-aad strict 2) (c ∷ d ∷ l) (s + 2) ≡ cond (eqb c 0 && eqb d 0) (error 21) (framed 2 14 (read-aad tolerant 2) (c ∷ d ∷ l) (s + 2))
+    go : (b : Bool) → eqb (c * 256 + d) 0 ≡ b → enclosed 2 14 (read-aad strict 2) (c ∷ d ∷ l) (s + 2) ≡ cond (eqb c 0 && eqb d 0) (error 21) (enclosed 2 14 (read-aad tolerant 2) (c ∷ d ∷ l) (s + 2))
     go true e = rw (two-strict c d l (s + 2) e, zeros c d e) refl
     go false e = rw (two-eight strict c d l (s + 2) e, two-eight tolerant c d l (s + 2) e, high-zero 0 c d (omega arith) e) refl
 

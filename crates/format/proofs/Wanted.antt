@@ -6,7 +6,7 @@ use Prim.Native.Nat.{ℕ, zero, suc, _+_, _-_, _≤_, _<_}
 use native.Mathlib.Omega.{arith}
 use lib.Dec.{leb, eqb}
 use lib.ListN.{length, drop, length-drop}
-use Rattle.format.specs.Read.{ReadResult, success, more-needed, error, Reader, go-on, _>>=_, _>>_, return, test, End, no-end, end-at, held, repeat, framed, Answer, refused, answer, operation}
+use Rattle.format.specs.Read.{ReadResult, success, more-needed, error, Reader, go-on, _>>=_, _>>_, return, test, End, no-end, end-at, held, repeat, enclosed, Answer, refused, answer, operation}
 use Rattle.format.specs.Serialize.{Bytes, Part, same-bytes, read, read-uint, read-uint8, read-uint16, read-uint32, read-short-length-seq}
 use Rattle.format.specs.Shared.{id-length, iv-length, tag-length, commit-key-length, read-message-format-version, read-esdk-suite-id, read-content-type}
 use Rattle.format.specs.Fields.{PairAt}
@@ -17,7 +17,7 @@ use Rattle.format.specs.Body.{Which, read-opening-of, read-opening, read
 use Rattle.format.specs.Auth.{read-header-auth-tag-of, read-header-auth-tag}
 use Rattle.format.specs.Refusals.{WantsNear, Nearness}
 use Rattle.format.proofs.Tests.{is-leb, is-nleb}
-use Rattle.format.proofs.Exact.{framed-fits, framed-short}
+use Rattle.format.proofs.Exact.{enclosed-fits, enclosed-short}
 use Rattle.format.proofs.Serialize.{read-fits, read-short, uint16-exact}
 use Rattle.format.proofs.Messages.{bytes-drop, cases}
 
@@ -85,12 +85,12 @@ module _ {A : Type 0} where
       go true l t hb = (tt, hb, refl)
       go false l t hb = tt
 
-  framed-wants : (n k : ℕ) (r : End → Reader A) → n < 65536 → ((e : End) → Wants Any (r e)) → Wants Any (framed n k r)
-  framed-wants n k r few hr = record { near = λ l s hb. go l s hb (leb n (length l)) refl }
+  enclosed-wants : (n k : ℕ) (r : End → Reader A) → n < 65536 → ((e : End) → Wants Any (r e)) → Wants Any (enclosed n k r)
+  enclosed-wants n k r few hr = record { near = λ l s hb. go l s hb (leb n (length l)) refl }
     where
-      go : (l : List ℕ) (s : ℕ) → Bytes l → (b : Bool) → leb n (length l) ≡ b → Near Any (s + length l) (framed n k r l s)
-      go l s hb true e = rw (framed-fits n k r l s (is-leb _ _ e)) (bind-wants (hr (end-at (s + n))) (λ a g. end-wants s n k a) .near l s hb)
-      go l s hb false e = let h : length l < n = is-nleb _ _ e in rw (framed-short n k r l s h) (omega arith)
+      go : (l : List ℕ) (s : ℕ) → Bytes l → (b : Bool) → leb n (length l) ≡ b → Near Any (s + length l) (enclosed n k r l s)
+      go l s hb true e = rw (enclosed-fits n k r l s (is-leb _ _ e)) (bind-wants (hr (end-at (s + n))) (λ a g. end-wants s n k a) .near l s hb)
+      go l s hb false e = let h : length l < n = is-nleb _ _ e in rw (enclosed-short n k r l s h) (omega arith)
 
 -- the leaves; a length of two bytes is below 65,536
 uint-wants : (width : ℕ) → width < 65536 → Wants Any (read-uint width)
@@ -142,7 +142,7 @@ aad-wants mode n e =
 of-wants : (mode : Mode) (b : Bool) (n : ℕ) → n < 65536 → Wants Any (read-aad-of mode b n)
 unfolding read-aad-of
 of-wants mode true n h = return-wants _
-of-wants mode false n h = framed-wants n 14 (read-aad mode n) h (aad-wants mode n)
+of-wants mode false n h = enclosed-wants n 14 (read-aad mode n) h (aad-wants mode n)
 
 section-wants : (mode : Mode) → Wants Any (read-aad-section mode)
 unfolding read-aad-section

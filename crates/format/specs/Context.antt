@@ -4,7 +4,7 @@ use mathlib.Core.List.{List, [], _∷_, _++_, map}
 use Prim.Native.Nat.{ℕ, _+_, _*_}
 use lib.Dec.{leb, eqb}
 use lib.ListN.{length}
-use Rattle.format.specs.Read.{success, error, Reader, go-on, _>>=_, _>>_, return, test, End, held, repeat, framed}
+use Rattle.format.specs.Read.{success, error, Reader, go-on, _>>=_, _>>_, return, test, End, held, repeat, enclosed}
 use Rattle.format.specs.Serialize.{Part, read-uint16, write-uint16, read-short-length-seq, write-short-length-seq, entry-length, images, sum, same-bytes}
 use Rattle.format.specs.Utf8.{valid-utf8-seq}
 use Rattle.format.specs.Fields.{Form, today, old, Pair, PairAt, pair-of}
@@ -101,7 +101,7 @@ read-aad mode n e = do
 -- what follows the section's length n; true: n is 0
 unfoldable pub read-aad-of : Mode → Bool → ℕ → Reader (List PairAt)
 read-aad-of mode true n = return []
-read-aad-of mode false n = framed n 14 (read-aad mode n)
+read-aad-of mode false n = enclosed n 14 (read-aad mode n)
 
 -- ReadAADSection
 unfoldable pub read-aad-section : Mode → Reader (List PairAt)

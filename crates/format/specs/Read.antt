@@ -62,8 +62,8 @@ module _ {A : Type 0} where
   repeat (suc n) step acc = step acc >>= λ a. repeat n step (acc ++ (a ∷ []))
 
   -- n bytes have to be there, and r, which is told where they end, has to end there: else refusal k
-  unfoldable pub framed : ℕ → ℕ → (End → Reader A) → Reader A
-  framed n k r l s =
+  unfoldable pub enclosed : ℕ → ℕ → (End → Reader A) → Reader A
+  enclosed n k r l s =
       elim (leb n (length l))
       [ true ↦ (r (end-at (s + n)) >>= λ a l′ t. go-on (test k (eqb t (s + n)) l′ t) (λ u. return a)) l s | false ↦ more-needed (s + n) ]
 

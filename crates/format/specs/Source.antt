@@ -6,7 +6,7 @@ use mathlib.Core.List.{List, [], map}
 use Prim.Native.Nat.{ℕ, _+_, _*_}
 use lib.Dec.{leb, ltb, eqb}
 use lib.ListN.{length}
-use Rattle.format.specs.Read.{Reader, _>>=_, _>>_, return, test, no-end, framed}
+use Rattle.format.specs.Read.{Reader, _>>=_, _>>_, return, test, no-end, enclosed}
 use Rattle.format.specs.Serialize.{Part, read-uint16}
 use Rattle.format.specs.Fields.{PairAt, pair-of, HeaderBody}
 use Rattle.format.specs.Context.{seen, pair-length, linear-length, pairs-limit, Mode, tolerant, read-aad-pair, read-aad-by, with-mark, look-up}
@@ -24,7 +24,7 @@ source-read-next-aad-pair acc = do
 -- what follows the section's length n; true: n is 0. Here 14 means ending early or late.
 unfoldable pub source-read-aad-of : Mode → Bool → ℕ → Reader (List PairAt)
 source-read-aad-of mode true n = return []
-source-read-aad-of mode false n = framed n 14 (λ e. read-aad-by source-read-next-aad-pair mode n)
+source-read-aad-of mode false n = enclosed n 14 (λ e. read-aad-by source-read-next-aad-pair mode n)
 
 -- ReadAADSection
 unfoldable pub source-read-aad-section : Mode → Reader (List PairAt)

@@ -1,6 +1,6 @@
 pub mod Tidy
 pub mod Steps
-pub mod Frames
+pub mod Enclosed
 pub mod Numbers
 pub mod Entries
 pub mod Operations

@@ -8,11 +8,11 @@ use native.Mathlib.Nat.{add-zero, add-assoc}
 use lib.Dec.{leb, eqb}
 use lib.ListN.{length, take, drop, length-drop}
 use lib.Seq.{drop-drop}
-use Rattle.format.specs.Read.{ReadResult, success, more-needed, error, Reader, go-on, _>>=_, _>>_, return, test, End, end-at, held, repeat, framed}
+use Rattle.format.specs.Read.{ReadResult, success, more-needed, error, Reader, go-on, _>>=_, _>>_, return, test, End, end-at, held, repeat, enclosed}
 use Rattle.format.specs.Serialize.{Part, read, read-uint, read-uint8, read-uint16, read-uint32, read-short-length-seq}
 use Rattle.format.specs.Context.{read-text}
 use Rattle.format.proofs.Tests.{is-leb, is-nleb}
-use Rattle.format.proofs.Exact.{framed-fits, framed-short, more-is-no-success, error-is-no-success}
+use Rattle.format.proofs.Exact.{enclosed-fits, enclosed-short, more-is-no-success, error-is-no-success}
 use Rattle.format.proofs.Serialize.{read-fits, read-short}
 
 -- l′ at t is l at s, some bytes further on
@@ -89,13 +89,13 @@ module _ {A : Type 0} (n k : ℕ) (r : End → Reader A) (hr : (e : End) → Tid
   reads (more-needed p) q e = more-is-no-success e
   reads (error j) q e = error-is-no-success e
 
-  frames : (b : Bool) → leb n (length l) ≡ b → framed n k r l s ≡ success a l′ t → Later l s l′ t
+  whole : (b : Bool) → leb n (length l) ≡ b → enclosed n k r l s ≡ success a l′ t → Later l s l′ t
   unfolding _>>=_
-  frames true h e = reads (r (end-at (s + n)) l s) refl (sym (framed-fits n k r l s (is-leb n (length l) h)) ∙ e)
-  frames false h e = more-is-no-success (sym (framed-short n k r l s (is-nleb n (length l) h)) ∙ e)
+  whole true h e = reads (r (end-at (s + n)) l s) refl (sym (enclosed-fits n k r l s (is-leb n (length l) h)) ∙ e)
+  whole false h e = more-is-no-success (sym (enclosed-short n k r l s (is-nleb n (length l) h)) ∙ e)
 
-pub framed-tidy : {A : Type 0} (n k : ℕ) (r : End → Reader A) → ((e : End) → Tidy (r e)) → Tidy (framed n k r)
-framed-tidy n k r hr = record { later = λ l s a l′ t e. frames n k r hr l s a l′ t (leb n (length l)) refl e }
+pub enclosed-tidy : {A : Type 0} (n k : ℕ) (r : End → Reader A) → ((e : End) → Tidy (r e)) → Tidy (enclosed n k r)
+enclosed-tidy n k r hr = record { later = λ l s a l′ t e. whole n k r hr l s a l′ t (leb n (length l)) refl e }
 
 -- the leaves
 read-later : (n : ℕ) (l : List ℕ) (s : ℕ) (p : Part) (l′ : List ℕ) (t : ℕ) → read n l s ≡ success p l′ t → Later l s l′ t
@@ -136,4 +136,4 @@ unfolding read-text
 text-tidy e k = search (bind-tidy, then-tidy, test-tidy, return-tidy, entry-tidy) depth 20
 
 -- for readers that are put together of these: `search tidy depth 20`
-pub ruleset tidy = (bind-tidy, then-tidy, test-tidy, held-tidy, return-tidy, uint8-tidy, uint16-tidy, uint32-tidy, read-tidy, entry-tidy, text-tidy, repeat-tidy, framed-tidy)
+pub ruleset tidy = (bind-tidy, then-tidy, test-tidy, held-tidy, return-tidy, uint8-tidy, uint16-tidy, uint32-tidy, read-tidy, entry-tidy, text-tidy, repeat-tidy, enclosed-tidy)

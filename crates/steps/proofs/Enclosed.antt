@@ -6,9 +6,9 @@ use Prim.Native.Nat.{ℕ, _+_, _≤_, _<_}
 use native.Mathlib.Omega.{arith}
 use lib.Dec.{leb, eqb}
 use lib.ListN.{length, drop, length-drop}
-use Rattle.format.specs.Read.{ReadResult, success, more-needed, error, Reader, go-on, _>>=_, return, test, End, end-at, framed, Answer, accepted, refused, answer, at}
+use Rattle.format.specs.Read.{ReadResult, success, more-needed, error, Reader, go-on, _>>=_, return, test, End, end-at, enclosed, Answer, accepted, refused, answer, at}
 use Rattle.format.proofs.Tests.{is-leb, is-nleb, eqb-is, neqb-is}
-use Rattle.format.proofs.Exact.{framed-fits, framed-short}
+use Rattle.format.proofs.Exact.{enclosed-fits, enclosed-short}
 use Rattle.steps.proofs.Steps.{refused-is-none, onward, onward-accepted}
 
 module _ {A : Type 0} (n k : ℕ) (r : End → Reader A) (m : List ℕ) (s : ℕ) (h : s ≤ length m) where
@@ -16,13 +16,13 @@ module _ {A : Type 0} (n k : ℕ) (r : End → Reader A) (m : List ℕ) (s : ℕ
   abbrev ends : A → ℕ → Answer A
   ends a t = cond (eqb t (s + n)) (accepted a t) (refused k 0)
 
-  pub frame-short : length m < s + n → at (framed n k r) m s ≡ refused 2 (s + n)
+  pub enclosed-lacks : length m < s + n → at (enclosed n k r) m s ≡ refused 2 (s + n)
   unfolding at
-  frame-short g = rw (framed-short n k r (drop s m) s (simp length-drop (omega arith)))
+  enclosed-lacks g = rw (enclosed-short n k r (drop s m) s (simp length-drop (omega arith)))
 
-  frame-there : s + n ≤ length m → at (framed n k r) m s ≡ onward (at (r (end-at (s + n))) m s) ends
+  enclosed-there : s + n ≤ length m → at (enclosed n k r) m s ≡ onward (at (r (end-at (s + n))) m s) ends
   unfolding at _>>=_ test return
-  frame-there g = rw (framed-fits n k r (drop s m) s (simp length-drop (omega arith))) (mid (r (end-at (s + n)) (drop s m) s))
+  enclosed-there g = rw (enclosed-fits n k r (drop s m) s (simp length-drop (omega arith))) (mid (r (end-at (s + n)) (drop s m) s))
     where
       end : (b : Bool) (a : A) (l : List ℕ) (t : ℕ) → answer (go-on (test k b l t) (λ u. return a)) ≡ cond b (accepted a t) (refused k 0)
       end true a l t = refl
@@ -34,18 +34,18 @@ module _ {A : Type 0} (n k : ℕ) (r : End → Reader A) (m : List ℕ) (s : ℕ
       mid (error j) = refl
 
   module _ (g : s + n ≤ length m) where
-    pub frame-stops : (j p : ℕ) → at (r (end-at (s + n))) m s ≡ refused j p → at (framed n k r) m s ≡ refused j p
-    frame-stops j p e = frame-there g ∙ rw e
+    pub enclosed-stops : (j p : ℕ) → at (r (end-at (s + n))) m s ≡ refused j p → at (enclosed n k r) m s ≡ refused j p
+    enclosed-stops j p e = enclosed-there g ∙ rw e
 
     module _ (a : A) (t : ℕ) (e : at (r (end-at (s + n))) m s ≡ accepted a t) where
-      pub frame-fits : t ≡ s + n → at (framed n k r) m s ≡ accepted a t
-      frame-fits q = frame-there g ∙ rw (e, eqb-is t (s + n) q)
+      pub enclosed-ends : t ≡ s + n → at (enclosed n k r) m s ≡ accepted a t
+      enclosed-ends q = enclosed-there g ∙ rw (e, eqb-is t (s + n) q)
 
-      pub frame-differs : (t ≡ s + n → ⊥) → at (framed n k r) m s ≡ refused k 0
-      frame-differs q = frame-there g ∙ rw (e, neqb-is t (s + n) q)
+      pub enclosed-differs : (t ≡ s + n → ⊥) → at (enclosed n k r) m s ≡ refused k 0
+      enclosed-differs q = enclosed-there g ∙ rw (e, neqb-is t (s + n) q)
 
-  pub un-frame : (a : A) (t : ℕ) → at (framed n k r) m s ≡ accepted a t → at (r (end-at (s + n))) m s ≡ accepted a t
-  un-frame a t e = by (leb (s + n) (length m)) refl
+  pub un-enclosed : (a : A) (t : ℕ) → at (enclosed n k r) m s ≡ accepted a t → at (r (end-at (s + n))) m s ≡ accepted a t
+  un-enclosed a t e = by (leb (s + n) (length m)) refl
     where
       same : (b : Bool) (x : A) (y : ℕ) → at (r (end-at (s + n))) m s ≡ accepted x y → cond b (accepted x y) (refused k 0) ≡ accepted a t → at (r (end-at (s + n))) m s ≡ accepted a t
       same true x y p q = p ∙ q
@@ -53,6 +53,6 @@ module _ {A : Type 0} (n k : ℕ) (r : End → Reader A) (m : List ℕ) (s : ℕ
 
       by : (b : Bool) → leb (s + n) (length m) ≡ b → at (r (end-at (s + n))) m s ≡ accepted a t
       by true q =
-          let w = onward-accepted (at (r (end-at (s + n))) m s) ends a t (sym (frame-there (is-leb _ _ q)) ∙ e) in
+          let w = onward-accepted (at (r (end-at (s + n))) m s) ends a t (sym (enclosed-there (is-leb _ _ q)) ∙ e) in
           same (eqb (w .1) (s + n)) (w .0) (w .1) (w .2) (w .3)
-      by false q = refused-is-none (sym (frame-short (is-nleb _ _ q)) ∙ e)
+      by false q = refused-is-none (sym (enclosed-lacks (is-nleb _ _ q)) ∙ e)
