@@ -7,7 +7,8 @@ use lib.Seq.{getD-drop, drop-drop}
 use native.Mathlib.Nat.{add-zero}
 use Rattle.format.specs.Serialize.{Part, images}
 use Rattle.format.specs.Fields.{PairAt, pair-of, pair-places, EncryptedDataKeyAt, key-of, key-places}
-use Rattle.format.specs.Lent.{place, pair-numbers, key-numbers, filled, items, part-in, pair-in, key-in}
+use Rattle.format.specs.Frames.{FrameAt, frame-of, frame-places}
+use Rattle.format.specs.Lent.{place, pair-numbers, key-numbers, frame-numbers, filled, items, part-in, pair-in, key-in, frame-in}
 use Rattle.format.specs.Demand3.{Held, Each}
 
 -- the two numbers of a place
@@ -32,15 +33,25 @@ module _ (m table : List ℕ) where
       let e₂ : drop (at + 4) table ≡ pair-numbers ps ++ l = sym (drop-drop 4 at table) ∙ ap (drop 4) e in
       rw (part-there (p .key) _ at k e, part-there (p .value) _ (at + 2) v e₁, pairs-there ps l (at + 4) h e₂) refl
 
+  -- items of three parts each: keys and frames
+  three-there : {A B : Type 0} (p q r : A → Part) (make : List ℕ → List ℕ → List ℕ → B) (xs : List A) (l : List ℕ) (at : ℕ) → Each (Held m) (images (λ x. p x ∷ q x ∷ r x ∷ []) xs)
+      → drop at table ≡ images place (images (λ x. p x ∷ q x ∷ r x ∷ []) xs) ++ l
+      → items (λ i. make (part-in m table i) (part-in m table (i + 2)) (part-in m table (i + 2 + 2))) 6 (length xs) at ≡ map (λ x. make (p x .bytes) (q x .bytes) (r x .bytes)) xs
+  unfolding images items
+  three-there p q r make [] l at h e = refl
+  three-there p q r make (x ∷ xs) l at (a, (b, (c, h))) e =
+      let e₁ = behind (p x) _ at e in
+      let e₂ = behind (q x) _ (at + 2) e₁ in
+      let e₃ : drop (at + 6) table ≡ images place (images (λ x. p x ∷ q x ∷ r x ∷ []) xs) ++ l = sym (drop-drop 6 at table) ∙ ap (drop 6) e in
+      rw (part-there (p x) _ at a e, part-there (q x) _ (at + 2) b e₁, part-there (r x) _ (at + 2 + 2) c e₂, three-there p q r make xs l (at + 6) h e₃) refl
+
   pub keys-there : (ks : List EncryptedDataKeyAt) (l : List ℕ) (at : ℕ) → Each (Held m) (images key-places ks) → drop at table ≡ key-numbers ks ++ l
       → items (key-in m table) 6 (length ks) at ≡ map key-of ks
-  unfolding images items
-  keys-there [] l at h e = refl
-  keys-there (k ∷ ks) l at (p, (i, (c, h))) e =
-      let e₁ = behind (k .keyProviderId) _ at e in
-      let e₂ = behind (k .keyProviderInfo) _ (at + 2) e₁ in
-      let e₃ : drop (at + 6) table ≡ key-numbers ks ++ l = sym (drop-drop 6 at table) ∙ ap (drop 6) e in
-      rw (part-there (k .keyProviderId) _ at p e, part-there (k .keyProviderInfo) _ (at + 2) i e₁, part-there (k .ciphertext) _ (at + 2 + 2) c e₂, keys-there ks l (at + 6) h e₃) refl
+  keys-there = three-there (λ k. k .keyProviderId) (λ k. k .keyProviderInfo) (λ k. k .ciphertext) (λ a b c. record { keyProviderId = a; keyProviderInfo = b; ciphertext = c })
+
+  frames-there : (fs : List FrameAt) (l : List ℕ) (at : ℕ) → Each (Held m) (images frame-places fs) → drop at table ≡ frame-numbers fs ++ l
+      → items (frame-in m table) 6 (length fs) at ≡ map frame-of fs
+  frames-there = three-there (λ f. f .iv) (λ f. f .content) (λ f. f .tag) (λ a b c. record { iv = a; content = b; tag = c })
 
 module _ (m table : List ℕ) where
   pub pair-table : (ps : List PairAt) → Each (Held m) (images pair-places ps) → items (pair-in m (filled (pair-numbers ps) table)) 4 (length ps) 0 ≡ map pair-of ps
@@ -48,3 +59,6 @@ module _ (m table : List ℕ) where
 
   pub key-table : (ks : List EncryptedDataKeyAt) → Each (Held m) (images key-places ks) → items (key-in m (filled (key-numbers ks) table)) 6 (length ks) 0 ≡ map key-of ks
   key-table ks h = keys-there m (filled (key-numbers ks) table) ks (drop (length (key-numbers ks)) table) 0 h refl
+
+  pub frame-table : (fs : List FrameAt) → Each (Held m) (images frame-places fs) → items (frame-in m (filled (frame-numbers fs) table)) 6 (length fs) 0 ≡ map frame-of fs
+  frame-table fs h = frames-there m (filled (frame-numbers fs) table) fs (drop (length (frame-numbers fs)) table) 0 h refl

@@ -17,10 +17,11 @@ use Rattle.format.specs.OnlyAuthenticated.{only-authenticated, fitting, 
 use Rattle.format.specs.Body.{Which, Opening, read-opening-of, read-opening, Closing, read-closing-of, read-closing, whole, Request, after-context, after-opening, read-body}
 use Rattle.format.specs.Auth.{HeaderAuth, zeros, read-header-auth-tag-of, read-header-auth-tag}
 use Rattle.format.specs.Places.{number8, number16, number32, part-of, entry-end, section-pairs, section-keys, section-keys-end, opening-here, closing-here, closing-end, body-here, body-end, value-of, value-here, auth-of-here, auth-here, auth-end}
-use Rattle.format.specs.First.{Line, lacks, when, unless, NoneApplies, FirstApplies, operation-list, opening-list-of, opening-list, closing-list-of, closing-list, frame-here, body-list, auth-list, find-list, only-authenticated-list, FirstRefusal, FirstRefusals}
+use Rattle.format.specs.First.{Line, lacks, when, unless, NoneApplies, FirstApplies, operation-list, opening-list-of, opening-list, closing-list-of, closing-list, frame-length-here, body-list, auth-list, find-list, only-authenticated-list, FirstRefusal, FirstRefusals}
 use Rattle.format.proofs.Lines.{first-line, none-applies, applies-none, first-applies, applies-first, Goes, goes-as, return-goes, bind-goes, test-goes, read-goes}
 use Rattle.format.proofs.Messages.{refused-is-no-accepted}
 use Rattle.format.proofs.First.{uint8-goes, uint16-goes, uint32-goes, context-goes, marked-goes, context-into-goes, keys-goes, keys-into-goes}
+use Rattle.format.proofs.Frames.{frames-into-goes}
 
 -- where the context section starts, of what follows the version byte at s; true: version 1
 unfoldable opening-end : Bool → ℕ → ℕ
@@ -64,7 +65,7 @@ unfolding opening-here
 is-v1 true m s = refl
 is-v1 false m s = refl
 
-frame-is : (b : Bool) (m : List ℕ) (s : ℕ) → closing-here b m s .frameLength ≡ frame-here b m s
+frame-is : (b : Bool) (m : List ℕ) (s : ℕ) → closing-here b m s .frameLength ≡ frame-length-here b m s
 unfolding closing-here
 frame-is true m s = refl
 frame-is false m s = refl
@@ -173,4 +174,5 @@ first-refusals =
       of-keys = λ max room. first-refusal (keys-into-goes max room);
       of-body = λ q. first-refusal (body-goes q);
       of-auth = λ suite. first-refusal (auth-goes suite);
+      of-frames = λ frame room. first-refusal (frames-into-goes frame room);
     }

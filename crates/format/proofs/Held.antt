@@ -32,13 +32,13 @@ pub record Here (m : List ℕ) (s : ℕ) (b : List ℕ) : Type 0 where
   pub is : drop s m ≡ b ++ after
 
 module _ (m : List ℕ) where
-  left : (s : ℕ) (b c : List ℕ) → Here m s (b ++ c) → Here m s b
+  pub left : (s : ℕ) (b c : List ℕ) → Here m s (b ++ c) → Here m s b
   left s b c h = record { after = c ++ h .after; is = h .is ∙ append-assoc b c (h .after) }
 
-  right : (s : ℕ) (b c : List ℕ) → Here m s (b ++ c) → Here m (s + length b) c
+  pub right : (s : ℕ) (b c : List ℕ) → Here m s (b ++ c) → Here m (s + length b) c
   right s b c h = record { after = h .after; is = sym (drop-drop (length b) s m) ∙ rw (h .is, append-assoc b c (h .after)) (drop-append-seam b (c ++ h .after)) }
 
-  held : (s : ℕ) (b : List ℕ) → Here m s b → bytes-at m s (length b) ≡ b
+  pub held : (s : ℕ) (b : List ℕ) → Here m s b → bytes-at m s (length b) ≡ b
   held s b h = rw (h .is) (take-append-seam b (h .after))
 
   entry-held : (s : ℕ) (bytes : List ℕ) → Here m s (write-short-length-seq bytes) → Held m (entry-at s bytes)

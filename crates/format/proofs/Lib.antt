@@ -14,10 +14,15 @@ pub mod Accepts
 pub mod Messages
 pub mod Lines
 pub mod First
-pub mod FirstBody
-pub mod Writers
 pub mod Members
 pub mod ListedLaws
+pub mod WantedLaws
+pub mod Runs
+pub mod Frames
+pub mod RunsExact
+pub mod FramesExact
+pub mod FirstBody
+pub mod Writers
 pub mod Listed
 pub mod Wanted
 pub mod Helps
@@ -33,6 +38,7 @@ pub mod Find
 pub mod Demand3
 pub mod Suites
 pub mod Sections
+pub mod FrameLaws
 pub mod Grammar
 pub mod Characters
 pub mod Lengths

@@ -15,28 +15,12 @@ use Rattle.format.specs.Keys.{Max, read-encrypted-data-key, read-encrypt
 use Rattle.format.specs.Body.{Which, either, v1-only, v2-only, read-opening-of, read-opening, read-closing-of, read-closing, Opening, Request, after-context, after-opening, read-body}
 use Rattle.format.specs.Auth.{read-header-auth-tag-of, read-header-auth-tag}
 use Rattle.format.specs.OnlyAuthenticated.{fitting, write-only-authenticated}
-use Rattle.format.specs.Refusals.{section-refusals, context-refusals, find-refusals, only-authenticated-refusals, opening-refusals, reserved-refusals, frame-refusals, closing-refusals, keys-refusals, body-refusals, auth-refusals, Refusal, RefusesBy, Refusals}
+use Rattle.format.specs.Refusals.{section-refusals, context-refusals, find-refusals, only-authenticated-refusals, opening-refusals, reserved-refusals, frame-refusals, closing-refusals, keys-refusals, body-refusals, auth-refusals, frames-refusals, Refusal, RefusesBy, Refusals}
 use Rattle.format.proofs.Tests.{is-eqb}
 use Rattle.format.proofs.Members.{has, has-neither, no-member}
-use Rattle.format.proofs.ListedLaws.{Fine, Listed, listed-as, also, bind-listed, then-listed, return-listed, sure-listed, test-listed, held-refusals, held-listed, read-listed, repeat-listed, enclosed-listed, Gives, return-gives, bind-gives, passed-listed, passed-gives, given-listed, marked-listed}
+use Rattle.format.proofs.ListedLaws.{Fine, Listed, listed-as, also, bind-listed, then-listed, return-listed, sure-listed, test-listed, held-refusals, held-listed, read-listed, uint8-listed, uint16-listed, uint32-listed, repeat-listed, enclosed-listed, Gives, return-gives, bind-gives, passed-listed, passed-gives, given-listed, marked-listed}
+use Rattle.format.proofs.Frames.{frames-into-listed}
 use Rattle.format.proofs.Messages.{cases}
-
--- the leaves
-uint-listed : (width : ℕ) → Listed [] (read-uint width)
-unfolding read-uint
-uint-listed width = bind-listed (read-listed width) (λ p. return-listed _)
-
-uint8-listed : Listed [] read-uint8
-unfolding read-uint8
-uint8-listed = uint-listed 1
-
-pub uint16-listed : Listed [] read-uint16
-unfolding read-uint16
-uint16-listed = uint-listed 2
-
-uint32-listed : Listed [] read-uint32
-unfolding read-uint32
-uint32-listed = uint-listed 4
 
 -- an entry may be refused twice by 32
 abbrev entry-refusals : End → List ℕ
@@ -286,7 +270,7 @@ section-without tolerant = (refl, refl)
 section-without strict = (refl, refl)
 
 pub refusals : Refusals
-unfolding context-refusals find-refusals only-authenticated-refusals keys-refusals body-refusals auth-refusals
+unfolding context-refusals find-refusals only-authenticated-refusals keys-refusals body-refusals auth-refusals frames-refusals
 refusals =
     record {
       of-context = λ mode room. refuses _ _ (no-member _ 2 (has-neither (section-refusals mode) (22 ∷ []) 2 (section-without mode .0) refl)) (section-into-listed mode room);
@@ -295,4 +279,5 @@ refusals =
       of-keys = λ max room. refuses _ _ (no-member _ 2 refl) (keys-into-listed max room);
       of-body = λ q. refuses _ _ (no-member _ 2 (body-without-2 q (section-refusals (q .mode)) (section-without (q .mode) .0))) (body-listed q);
       of-auth = λ suite. refuses _ _ (no-member _ 2 refl) (auth-listed suite);
+      of-frames = λ frame room. refuses _ _ (no-member _ 2 refl) (frames-into-listed frame room);
     }

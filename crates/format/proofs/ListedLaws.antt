@@ -8,7 +8,7 @@ use native.Mathlib.Omega.{arith}
 use lib.Dec.{leb, eqb}
 use lib.ListN.{length, length-drop}
 use Rattle.format.specs.Read.{ReadResult, success, more-needed, error, Reader, go-on, _>>=_, _>>_, return, test, End, no-end, end-at, held, repeat, enclosed}
-use Rattle.format.specs.Serialize.{read}
+use Rattle.format.specs.Serialize.{read, read-uint, read-uint8, read-uint16, read-uint32}
 use Rattle.format.specs.Fields.{PairAt}
 use Rattle.format.specs.Context.{mark, with-mark}
 use Rattle.format.proofs.Tests.{is-leb, is-nleb}
@@ -84,9 +84,26 @@ read-listed n = record { fine = λ l s. go l s (leb n (length l)) refl }
     go l s true e = let h : n ≤ length l = is-leb _ _ e in rw (read-fits n l s h) (simp length-drop (omega arith))
     go l s false e = let h : length l < n = is-nleb _ _ e in rw (read-short n l s h) (omega arith)
 
+-- numbers
+uint-listed : (width : ℕ) → Listed [] (read-uint width)
+unfolding read-uint
+uint-listed width = bind-listed (read-listed width) (λ p. return-listed _)
+
+pub uint8-listed : Listed [] read-uint8
+unfolding read-uint8
+uint8-listed = uint-listed 1
+
+pub uint16-listed : Listed [] read-uint16
+unfolding read-uint16
+uint16-listed = uint-listed 2
+
+pub uint32-listed : Listed [] read-uint32
+unfolding read-uint32
+uint32-listed = uint-listed 4
+
 module _ {A : Type 0} where
   -- a list of refusals behind itself
-  once : (ks : List ℕ) (n : ℕ) (x : ReadResult A) → Fine (ks ++ ks) n x → Fine ks n x
+  pub once : (ks : List ℕ) (n : ℕ) (x : ReadResult A) → Fine (ks ++ ks) n x → Fine ks n x
   once ks n x h = more (ks ++ ks) ks (λ k z. ⊎-elim (λ w. w) (λ w. w) (List·Memᴰ·append-cases ks z)) n x h
 
 module _ {A : Type 0} where

@@ -29,7 +29,7 @@ use Rattle.format.proofs.Characters.{to-characters, to-octets}
 use Rattle.format.proofs.Suites.{in-a-row, row-of, no-third, committing, eleven}
 use Rattle.format.proofs.Context.{length-pairs}
 use Rattle.format.proofs.Tables.{tables}
-use Rattle.format.proofs.Filled.{pair-table, key-table}
+use Rattle.format.proofs.Filled.{pair-table, key-table, frame-table}
 use Rattle.format.proofs.Lengths.{lengths}
 use Rattle.format.proofs.FirstBody.{opening-goes, first-refusal, none-applied}
 use Rattle.format.proofs.Find.{same-equal, equal-same, seen-has, has-seen}
@@ -165,6 +165,7 @@ pinned =
       tables = tables;
       pair-table = pair-table;
       key-table = key-table;
+      frame-table = frame-table;
       in-front = λ front lent. take-append-seam front (drop (length front) lent);
       beyond = λ front lent. drop-append-seam front (drop (length front) lent);
       pairs-take = length-pairs;

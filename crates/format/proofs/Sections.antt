@@ -33,7 +33,7 @@ use Rattle.format.proofs.Held.{context-held, keys-held}
 use Rattle.format.proofs.Writers.{writer-law}
 
 -- what stands at a start of a short message, and is not empty, starts within it
-start-fits : (m : List ℕ) (s : ℕ) (b after : List ℕ) → 0 < length b → length m ≤ 4294967295 → drop s m ≡ b ++ after → s ≤ 4294967295
+pub start-fits : (m : List ℕ) (s : ℕ) (b after : List ℕ) → 0 < length b → length m ≤ 4294967295 → drop s m ≡ b ++ after → s ≤ 4294967295
 start-fits m s b after h fits e =
     let d : length m - s ≡ length (b ++ after) = sym (length-drop s m) ∙ ap length e in
     let l = length-append b after in
@@ -41,7 +41,7 @@ start-fits m s b after h fits e =
 
 -- an exact reader accepts what stands there
 module _ {A W : Type 0} {r : Reader A} {ok : W → Type 0} {img : W → List ℕ} {put : ℕ → W → A} (h : Exact r ok img put) where
-  reads : (m : List ℕ) (s : ℕ) → length m ≤ 4294967295 → s ≤ 4294967295 → (w : W) → ok w → (after : List ℕ) → drop s m ≡ img w ++ after
+  pub reads : (m : List ℕ) (s : ℕ) → length m ≤ 4294967295 → s ≤ 4294967295 → (w : W) → ok w → (after : List ℕ) → drop s m ≡ img w ++ after
       → operation r m s ≡ accepted (put s w) (s + length (img w))
   reads m s fits near w o after e = rw (operation-here r m s fits near, e, h .complete w s after o) refl
 

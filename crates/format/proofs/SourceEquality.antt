@@ -20,7 +20,8 @@ use Rattle.format.proofs.Messages.{bytes-drop, refused-is-no-accepted}
 use Rattle.format.proofs.Section.{Alike, of-alike}
 use Rattle.format.proofs.Members.{has, has-neither, no-member}
 use Rattle.format.proofs.Listed.{body-without-13, section-without, refusals}
-use Rattle.format.proofs.Wanted.{Near, Wants, uint16-wants, opening-wants}
+use Rattle.format.proofs.WantedLaws.{Near, Header, uint16-wants}
+use Rattle.format.proofs.Wanted.{opening-wants}
 use Rattle.format.proofs.Helps.{section-wants}
 use Rattle.format.proofs.SourceListed.{into-never, find-never, only-authenticated-never, body-never}
 
@@ -40,11 +41,11 @@ module _ {A B : Type 0} where
   unfolding _>>=_
   first-differs {r} {r′} f h = record { alike = λ l s hb. goes-on f (r l s) (r′ l s) (h .alike l s hb) }
 
-  then-differs : {good : A → Type 0} {r : Reader A} {f f′ : A → Reader B} → Wants good r → ((a : A) → good a → BothRead (f a) (f′ a)) → BothRead (r >>= f) (r >>= f′)
+  then-differs : {good : A → Type 0} {r : Reader A} {f f′ : A → Reader B} → Header good r → ((a : A) → good a → BothRead (f a) (f′ a)) → BothRead (r >>= f) (r >>= f′)
   unfolding _>>=_
   then-differs {good} {r} {f} {f′} w h = record { alike = λ l s hb. go (s + length l) (r l s) (w .near l s hb) }
     where
-      go : (n : ℕ) (x : ReadResult A) → Near good n x → Alike (go-on x f) (go-on x f′)
+      go : (n : ℕ) (x : ReadResult A) → Near 65536 good n x → Alike (go-on x f) (go-on x f′)
       go n (success a l t) g = h a (g .0) .alike l t (g .1)
       go n (more-needed p) g = inl refl
       go n (error k) g = inl refl

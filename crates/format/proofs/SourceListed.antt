@@ -12,8 +12,8 @@ use Rattle.format.specs.Body.{Request}
 use Rattle.format.specs.Refusals.{opening-refusals, closing-refusals}
 use Rattle.format.specs.Source.{source-read-next-aad-pair, source-read-aad-of, source-read-aad-section, source-read-aad-section-into, source-find-value, source-write-only-authenticated, source-after-opening, source-read-body}
 use Rattle.format.proofs.Members.{has, no-member}
-use Rattle.format.proofs.ListedLaws.{Listed, listed-as, bind-listed, then-listed, return-listed, test-listed, repeat-listed, enclosed-listed}
-use Rattle.format.proofs.Listed.{uint16-listed, look-listed, pair-listed, body-listed-by, refuses, body-without-2, body-without-32}
+use Rattle.format.proofs.ListedLaws.{Listed, listed-as, bind-listed, then-listed, return-listed, test-listed, uint16-listed, repeat-listed, enclosed-listed}
+use Rattle.format.proofs.Listed.{look-listed, pair-listed, body-listed-by, refuses, body-without-2, body-without-32}
 
 next-listed : (acc : List PairAt) → Listed (10 ∷ 11 ∷ 12 ∷ 13 ∷ []) (source-read-next-aad-pair acc)
 unfolding source-read-next-aad-pair

@@ -3,11 +3,11 @@
 use mathlib.Core.Path.{_≡_, refl, sym, ap, _∙_}
 use mathlib.Core.Bool.{Bool, true, false}
 use mathlib.Core.List.{List, [], _∷_, _++_}
-use Prim.Native.Nat.{ℕ, zero, suc, _+_, _<_}
+use Prim.Native.Nat.{ℕ, zero, suc, _+_, _≤_, _<_}
 use native.Mathlib.Omega.{arith}
 use lib.ListN.{length}
 use Rattle.format.specs.Read.{ReadResult, success, more-needed, error, Reader, go-on, _>>=_, _>>_, return, test, no-end, held, repeat}
-use Rattle.format.specs.Serialize.{Part, read, read-uint, read-uint16, read-short-length-seq, entry-length}
+use Rattle.format.specs.Serialize.{Part, read, read-uint, read-uint16, read-uint32, read-short-length-seq, entry-length}
 use Rattle.format.specs.Fields.{PairAt, pair-of}
 use Rattle.format.specs.Context.{pair-length, read-text, read-aad-pair}
 use Rattle.format.specs.Source.{source-read-next-aad-pair}
@@ -38,8 +38,11 @@ pub record Takes {A : Type 0} (n : ℕ) (r : Reader A) : Type 0 where
   pub past : (e : ℕ) (l : List ℕ) (s : ℕ) → e < s + n → Past e (r l s)
 
 module _ {A : Type 0} where
+  pub fewer-takes : {n k : ℕ} {r : Reader A} → Takes n r → k ≤ n → Takes k r
+  fewer-takes h f = record { past = λ e l s j. h .past e l s (omega arith) }
+
   pub any-takes : {n : ℕ} {r : Reader A} → Takes n r → Takes 0 r
-  any-takes h = record { past = λ e l s k. h .past e l s (omega arith) }
+  any-takes h = fewer-takes h (omega arith)
 
   -- that of an end which is none
   pub free-takes : {n : ℕ} (k : ℕ) {q : Reader A} → Takes n q → Takes n (held no-end k >> q)
@@ -103,6 +106,10 @@ read-takes n = sized-takes n (read n) (λ l s p l′ t e. read-size n l s p l′
 
 pub uint16-takes : Takes 2 read-uint16
 uint16-takes = sized-takes 2 read-uint16 uint16-size
+
+pub uint32-takes : Takes 4 read-uint32
+unfolding read-uint32
+uint32-takes = sized-takes 4 (read-uint 4) (uint-size 4)
 
 -- an entry, a text, a pair, and the source's next pair
 pub entry-takes : Takes 2 (read-short-length-seq no-end)

@@ -15,242 +15,148 @@ use Rattle.format.specs.OnlyAuthenticated.{fitting, write-only-authentic
 use Rattle.format.specs.Keys.{Max, read-encrypted-data-key, read-encrypted-data-keys-section, read-encrypted-data-keys-section-into}
 use Rattle.format.specs.Body.{Which, read-opening-of, read-opening, read-closing-of, read-closing, Opening, Request, after-context, after-opening, read-body}
 use Rattle.format.specs.Auth.{read-header-auth-tag-of, read-header-auth-tag}
-use Rattle.format.specs.Refusals.{WantsNear, Nearness}
+use Rattle.format.specs.Refusals.{WantsWithin, Nearness}
 use Rattle.format.proofs.Tests.{is-leb, is-nleb}
 use Rattle.format.proofs.Exact.{enclosed-fits, enclosed-short}
 use Rattle.format.proofs.Serialize.{read-fits, read-short, uint16-exact}
+use Rattle.format.proofs.Frames.{frames-into-wants}
 use Rattle.format.proofs.Messages.{bytes-drop, cases}
+use Rattle.format.proofs.WantedLaws.{Near, Wants, Any, goes-on, bind-wants, then-wants, return-wants, test-wants, held-wants, read-wants, repeat-wants, enclosed-wants, Header, uint8-wants, uint16-wants, uint32-wants}
 
--- of a reader that had the bytes up to the place n: where it succeeds, what it read is good and those behind its tail are left;
--- and what it wants lies near n
-abbrev pub Near : {A : Type 0} → (A → Type 0) → ℕ → ReadResult A → Type 0
-Near good n (success a l t) = good a × Bytes l × (t + length l ≡ n)
-Near good n (more-needed p) = p < n + 65536
-Near good n (error k) = Unit {0}
-
-pub record Wants {A : Type 0} (good : A → Type 0) (r : Reader A) : Type 0 where
-  pub near : (l : List ℕ) (s : ℕ) → Bytes l → Near good (s + length l) (r l s)
-
-abbrev pub Any : {A : Type 0} → A → Type 0
-Any a = Unit {0}
-
-module _ {A B : Type 0} where
-  goes-on : (good : A → Type 0) (fine : B → Type 0) (f : A → Reader B) → ((a : A) → good a → Wants fine (f a)) → (n : ℕ) (x : ReadResult A) → Near good n x → Near fine n (go-on x f)
-  goes-on good fine f hf n (success a l t) h = rw (h .2) at (hf a (h .0) .near l t (h .1))
-  goes-on good fine f hf n (more-needed p) h = h
-  goes-on good fine f hf n (error k) h = h
-
-  bind-wants : {good : A → Type 0} {fine : B → Type 0} {r : Reader A} {f : A → Reader B} → Wants good r → ((a : A) → good a → Wants fine (f a)) → Wants fine (r >>= f)
-  unfolding _>>=_
-  bind-wants {good} {fine} {r} {f} hr hf = record { near = λ l s hb. goes-on good fine f hf (s + length l) (r l s) (hr .near l s hb) }
-
-  then-wants : {good : A → Type 0} {fine : B → Type 0} {r : Reader A} {q : Reader B} → Wants good r → Wants fine q → Wants fine (r >> q)
-  unfolding _>>_
-  then-wants {good} {fine} {r} {q} hr hq = record { near = λ l s hb. goes-on good fine (λ a. q) (λ a h. hq) (s + length l) (r l s) (hr .near l s hb) }
-
-return-wants : {A : Type 0} (a : A) → Wants Any (return a)
-unfolding return
-return-wants a = record { near = λ l s hb. (tt, hb, refl) }
-
-test-wants : (k : ℕ) (b : Bool) → Wants Any (test k b)
-unfolding test
-test-wants k true = record { near = λ l s hb. (tt, hb, refl) }
-test-wants k false = record { near = λ l s hb. tt }
-
-held-wants : (e : End) (n : ℕ) → Wants Any (held e n)
-unfolding held
-held-wants e n = record { near = λ l s. test-wants 32 _ .near l s }
-
-read-wants : (n : ℕ) → n < 65536 → Wants Any (read n)
-read-wants n few = record { near = λ l s hb. go l s hb (leb n (length l)) refl }
-  where
-    go : (l : List ℕ) (s : ℕ) → Bytes l → (b : Bool) → leb n (length l) ≡ b → Near Any (s + length l) (read n l s)
-    go l s hb true e =
-        let h : n ≤ length l = is-leb _ _ e in
-        let d : length (drop n l) ≡ length l - n = length-drop n l in
-        rw (read-fits n l s h) (tt, bytes-drop n l hb, omega arith)
-    go l s hb false e = let h : length l < n = is-nleb _ _ e in rw (read-short n l s h) (omega arith)
-
-module _ {A : Type 0} where
-  repeat-wants : (n : ℕ) {step : List A → Reader A} → ((acc : List A) → Wants Any (step acc)) → (acc : List A) → Wants Any (repeat n step acc)
-  unfolding repeat return
-  repeat-wants zero h acc = record { near = λ l s hb. (tt, hb, refl) }
-  repeat-wants (suc n) h acc = bind-wants (h acc) (λ a g. repeat-wants n h (acc ++ (a ∷ [])))
-
-  end-wants : (s n k : ℕ) (a : A) → Wants Any (λ l′ t. go-on (test k (eqb t (s + n)) l′ t) (λ u. return a))
-  unfolding test return
-  end-wants s n k a = record { near = λ l t hb. go (eqb t (s + n)) l t hb }
-    where
-      go : (b : Bool) (l : List ℕ) (t : ℕ) → Bytes l → Near Any (t + length l) (go-on (test k b l t) (λ u. return a))
-      go true l t hb = (tt, hb, refl)
-      go false l t hb = tt
-
-  enclosed-wants : (n k : ℕ) (r : End → Reader A) → n < 65536 → ((e : End) → Wants Any (r e)) → Wants Any (enclosed n k r)
-  enclosed-wants n k r few hr = record { near = λ l s hb. go l s hb (leb n (length l)) refl }
-    where
-      go : (l : List ℕ) (s : ℕ) → Bytes l → (b : Bool) → leb n (length l) ≡ b → Near Any (s + length l) (enclosed n k r l s)
-      go l s hb true e = rw (enclosed-fits n k r l s (is-leb _ _ e)) (bind-wants (hr (end-at (s + n))) (λ a g. end-wants s n k a) .near l s hb)
-      go l s hb false e = let h : length l < n = is-nleb _ _ e in rw (enclosed-short n k r l s h) (omega arith)
-
--- the leaves; a length of two bytes is below 65,536
-uint-wants : (width : ℕ) → width < 65536 → Wants Any (read-uint width)
-unfolding read-uint
-uint-wants width h = bind-wants (read-wants width h) (λ p g. return-wants _)
-
-uint8-wants : Wants Any read-uint8
-unfolding read-uint8
-uint8-wants = uint-wants 1 (omega arith)
-
-uint32-wants : Wants Any read-uint32
-unfolding read-uint32
-uint32-wants = uint-wants 4 (omega arith)
-
-uint16-any : Wants Any read-uint16
-unfolding read-uint16
-uint16-any = uint-wants 2 (omega arith)
-
-pub uint16-wants : Wants (λ n. n < 65536) read-uint16
-uint16-wants = record { near = λ l s hb. go l s hb (read-uint16 l s) refl (uint16-any .near l s hb) }
-  where
-    go : (l : List ℕ) (s : ℕ) → Bytes l → (x : ReadResult ℕ) → read-uint16 l s ≡ x → Near Any (s + length l) x → Near (λ n. n < 65536) (s + length l) x
-    go l s hb (success a l′ t) e h = let w = uint16-exact .sound l s a l′ t hb e in (rw (w .placed) (w .good), h .1, h .2)
-    go l s hb (more-needed p) e h = h
-    go l s hb (error k) e h = h
-
-entry-wants : (e : End) → Wants Any (read-short-length-seq e)
+entry-wants : (e : End) → Header Any (read-short-length-seq e)
 unfolding read-short-length-seq
 entry-wants e = then-wants (held-wants e 2) (bind-wants uint16-wants (λ n g. then-wants (held-wants e n) (read-wants n g)))
 
-text-wants : (e : End) (k : ℕ) → Wants Any (read-text e k)
+text-wants : (e : End) (k : ℕ) → Header Any (read-text e k)
 unfolding read-text
 text-wants e k = bind-wants (entry-wants e) (λ p g. then-wants (test-wants k _) (return-wants _))
 
 -- the context section
-pair-wants : (e : End) → Wants Any (read-aad-pair e)
+pair-wants : (e : End) → Header Any (read-aad-pair e)
 unfolding read-aad-pair
 pair-wants e = bind-wants (text-wants e 10) (λ k g. bind-wants (text-wants e 11) (λ v g. return-wants _))
 
-next-wants : (e : End) (acc : List PairAt) → Wants Any (read-next-aad-pair e acc)
+next-wants : (e : End) (acc : List PairAt) → Header Any (read-next-aad-pair e acc)
 unfolding read-next-aad-pair
 next-wants e acc = bind-wants (pair-wants e) (λ p g. then-wants (test-wants 12 _) (return-wants _))
 
-aad-wants : (mode : Mode) (n : ℕ) (e : End) → Wants Any (read-aad mode n e)
+aad-wants : (mode : Mode) (n : ℕ) (e : End) → Header Any (read-aad mode n e)
 unfolding read-aad read-aad-by
 aad-wants mode n e =
     then-wants (held-wants e 2) (bind-wants uint16-wants (λ count g. then-wants (test-wants 8 _) (then-wants (test-wants 21 _) (then-wants (test-wants 9 _) (repeat-wants count (next-wants e) [])))))
 
-of-wants : (mode : Mode) (b : Bool) (n : ℕ) → n < 65536 → Wants Any (read-aad-of mode b n)
+of-wants : (mode : Mode) (b : Bool) (n : ℕ) → n < 65536 → Header Any (read-aad-of mode b n)
 unfolding read-aad-of
 of-wants mode true n h = return-wants _
 of-wants mode false n h = enclosed-wants n 14 (read-aad mode n) h (aad-wants mode n)
 
-section-wants : (mode : Mode) → Wants Any (read-aad-section mode)
+section-wants : (mode : Mode) → Header Any (read-aad-section mode)
 unfolding read-aad-section
 section-wants mode = bind-wants uint16-wants (λ n g. of-wants mode (eqb n 0) n g)
 
-section-into-wants : (mode : Mode) (room : ℕ) → Wants Any (read-aad-section-into mode room)
+section-into-wants : (mode : Mode) (room : ℕ) → Header Any (read-aad-section-into mode room)
 unfolding read-aad-section-into
 section-into-wants mode room = bind-wants (section-wants mode) (λ ps g. then-wants (test-wants 22 _) (return-wants _))
 
-look-wants : (k : List ℕ) (ps : List PairAt) → Wants Any (look-up k ps)
+look-wants : (k : List ℕ) (ps : List PairAt) → Header Any (look-up k ps)
 unfolding look-up
 look-wants k [] = record { near = λ l s hb. tt }
 look-wants k (p ∷ ps) = record { near = λ l s hb. go l s hb (same-bytes k (p .key .bytes)) (look-wants k ps .near l s hb) }
   where
-    go : (l : List ℕ) (s : ℕ) → Bytes l → (b : Bool) → Near Any (s + length l) (look-up k ps l s)
-        → Near {A = Part} Any (s + length l) (elim b as (λ x. ReadResult Part) [ true ↦ success (p .value) l s | false ↦ look-up k ps l s ])
+    go : (l : List ℕ) (s : ℕ) → Bytes l → (b : Bool) → Near 65536 Any (s + length l) (look-up k ps l s)
+        → Near {A = Part} 65536 Any (s + length l) (elim b as (λ x. ReadResult Part) [ true ↦ success (p .value) l s | false ↦ look-up k ps l s ])
     go l s hb true h = (tt, hb, refl)
     go l s hb false h = h
 
-find-wants : (k : List ℕ) → Wants Any (find-value k)
+find-wants : (k : List ℕ) → Header Any (find-value k)
 unfolding find-value
 find-wants k = bind-wants (section-wants tolerant) (λ ps g. look-wants k ps)
 
-only-authenticated-wants : (text required : List ℕ) (room : ℕ) → Wants Any (write-only-authenticated text required room)
+only-authenticated-wants : (text required : List ℕ) (room : ℕ) → Header Any (write-only-authenticated text required room)
 unfolding write-only-authenticated fitting
 only-authenticated-wants text required room = bind-wants (section-wants tolerant) (λ ps g. then-wants (test-wants 31 _) (then-wants (test-wants 28 _) (return-wants _)))
 
 -- the key section
-key-wants : Wants Any read-encrypted-data-key
+key-wants : Header Any read-encrypted-data-key
 unfolding read-encrypted-data-key
 key-wants = bind-wants (text-wants no-end 16) (λ p g. bind-wants (entry-wants no-end) (λ i g. bind-wants (entry-wants no-end) (λ c g. return-wants _)))
 
-keys-wants : (max : Max) → Wants Any (read-encrypted-data-keys-section max)
+keys-wants : (max : Max) → Header Any (read-encrypted-data-keys-section max)
 unfolding read-encrypted-data-keys-section
 keys-wants max = bind-wants uint16-wants (λ count g. then-wants (test-wants 15 _) (repeat-wants count (λ acc. key-wants) []))
 
-keys-into-wants : (max : Max) (room : ℕ) → Wants Any (read-encrypted-data-keys-section-into max room)
+keys-into-wants : (max : Max) (room : ℕ) → Header Any (read-encrypted-data-keys-section-into max room)
 unfolding read-encrypted-data-keys-section-into
 keys-into-wants max room = bind-wants (keys-wants max) (λ ks g. then-wants (test-wants 23 _) (return-wants _))
 
 -- a body
-suite-wants : (version : ℕ) → Wants Any (read-esdk-suite-id version)
+suite-wants : (version : ℕ) → Header Any (read-esdk-suite-id version)
 unfolding read-esdk-suite-id
 suite-wants version = bind-wants uint16-wants (λ x g. then-wants (test-wants 6 _) (then-wants (test-wants 7 _) (return-wants _)))
 
-rest-wants : (v1 : Bool) → Wants Any (read-opening-of v1)
+rest-wants : (v1 : Bool) → Header Any (read-opening-of v1)
 unfolding read-opening-of
 rest-wants true =
     bind-wants uint8-wants (λ t g. then-wants (test-wants 5 _) (bind-wants (suite-wants 1) (λ x g. bind-wants (read-wants (id-length 1) (omega arith)) (λ id g. return-wants _))))
 rest-wants false = bind-wants (suite-wants 2) (λ x g. bind-wants (read-wants (id-length 2) (omega arith)) (λ id g. return-wants _))
 
-version-wants : Wants Any read-message-format-version
+version-wants : Header Any read-message-format-version
 unfolding read-message-format-version
 version-wants = bind-wants uint8-wants (λ v g. then-wants (test-wants 3 _) (return-wants _))
 
-pub opening-wants : (which : Which) → Wants Any (read-opening which)
+pub opening-wants : (which : Which) → Header Any (read-opening which)
 unfolding read-opening
 opening-wants which = bind-wants version-wants (λ v g. then-wants (test-wants 4 _) (rest-wants (eqb v 1)))
 
-content-wants : Wants Any read-content-type
+content-wants : Header Any read-content-type
 unfolding read-content-type
 content-wants = bind-wants uint8-wants (λ v g. then-wants (test-wants 17 _) (return-wants _))
 
-closing-of-wants : (v1 : Bool) (content : ℕ) → Wants Any (read-closing-of v1 content)
+closing-of-wants : (v1 : Bool) (content : ℕ) → Header Any (read-closing-of v1 content)
 unfolding read-closing-of
 closing-of-wants true content =
-    bind-wants uint32-wants (λ r g. then-wants (test-wants 18 _) (bind-wants uint8-wants (λ i g. then-wants (test-wants 19 _) (bind-wants uint32-wants (λ f g. return-wants _)))))
-closing-of-wants false content = bind-wants uint32-wants (λ f g. bind-wants (read-wants commit-key-length (omega arith)) (λ x g. return-wants _))
+    bind-wants (uint32-wants (omega arith)) (λ r g. then-wants (test-wants 18 _) (bind-wants uint8-wants (λ i g. then-wants (test-wants 19 _) (bind-wants (uint32-wants (omega arith)) (λ f g. return-wants _)))))
+closing-of-wants false content = bind-wants (uint32-wants (omega arith)) (λ f g. bind-wants (read-wants commit-key-length (omega arith)) (λ x g. return-wants _))
 
-closing-wants : (v1 : Bool) → Wants Any (read-closing v1)
+closing-wants : (v1 : Bool) → Header Any (read-closing v1)
 unfolding read-closing
 closing-wants v1 = bind-wants content-wants (λ c g. closing-of-wants v1 c)
 
-after-context-wants : (q : Request) (o : Opening) (x : ContextAt) → Wants Any (after-context q o x)
+after-context-wants : (q : Request) (o : Opening) (x : ContextAt) → Header Any (after-context q o x)
 unfolding after-context
 after-context-wants q o x =
     bind-wants (keys-wants (q .max)) (λ ks g. bind-wants (closing-wants (eqb (o .version) 1)) (λ c g.
     then-wants (test-wants 20 _) (then-wants (test-wants 22 _) (then-wants (test-wants 23 _) (return-wants _)))))
 
-marked-wants : {section : Reader (List PairAt)} → Wants Any section → Wants Any (with-mark section)
+marked-wants : {section : Reader (List PairAt)} → Header Any section → Header Any (with-mark section)
 unfolding with-mark
-marked-wants {section} h = record { near = λ l s hb. goes-on Any Any (mark s) (λ ps g. record { near = λ l t hb. (tt, hb, refl) }) (s + length l) (section l s) (h .near l s hb) }
+marked-wants {section} h = record { near = λ l s hb. goes-on {b = 65536} Any Any (mark s) (λ ps g. record { near = λ l t hb. (tt, hb, refl) }) (s + length l) (section l s) (h .near l s hb) }
 
-body-wants : (q : Request) → Wants Any (read-body q)
+body-wants : (q : Request) → Header Any (read-body q)
 unfolding read-body after-opening
 body-wants q = bind-wants (opening-wants (q .which)) (λ o g. bind-wants (marked-wants (section-wants (q .mode))) (λ x g. after-context-wants q o x))
 
 -- an authentication record
-auth-of-wants : (v1 : Bool) → Wants Any (read-header-auth-tag-of v1)
+auth-of-wants : (v1 : Bool) → Header Any (read-header-auth-tag-of v1)
 unfolding read-header-auth-tag-of
 auth-of-wants true = bind-wants (read-wants iv-length (omega arith)) (λ iv g. bind-wants (read-wants tag-length (omega arith)) (λ tag g. return-wants _))
 auth-of-wants false = bind-wants (read-wants tag-length (omega arith)) (λ tag g. return-wants _)
 
-auth-wants : (suite : ℕ) → Wants Any (read-header-auth-tag suite)
+auth-wants : (suite : ℕ) → Header Any (read-header-auth-tag suite)
 unfolding read-header-auth-tag
 auth-wants suite = then-wants (test-wants 6 _) (auth-of-wants _)
 
 -- as operations
-wants-near : {A : Type 0} (r : Reader A) → Wants Any r → WantsNear r
-wants-near {A} r w m s p hb e = cases r m s far near
+pub wants-within : {A : Type 0} {b : ℕ} → 0 < b → (r : Reader A) → Wants b Any r → WantsWithin b r
+wants-within {A} {b} some r w m s p hb e = cases r m s far near
   where
-    far : operation r m s ≡ refused 1 0 → p < s + (length m - s) + 65536
+    far : operation r m s ≡ refused 1 0 → p < s + (length m - s) + b
     far q =
         let z : _≡_ {A = Answer A} (refused 1 0) (refused 2 p) = sym q ∙ e in
         let k : _≡_ {A = ℕ} 1 2 = cc in
         absurd (omega arith)
 
-    of : (x : ReadResult A) → Near Any (s + length (drop s m)) x → answer x ≡ refused 2 p → p < s + (length m - s) + 65536
+    of : (x : ReadResult A) → Near b Any (s + length (drop s m)) x → answer x ≡ refused 2 p → p < s + (length m - s) + b
     of (success a l t) f q = let z : _≡_ {A = ℕ} 0 1 = cc in absurd (omega arith)
     of (more-needed v) f q =
         let pv : v ≡ p = cc in
@@ -258,16 +164,17 @@ wants-near {A} r w m s p hb e = cases r m s far near
         omega arith
     of (error j) f q = let p0 : 0 ≡ p = cc in omega arith
 
-    near : length m ≤ 4294967295 → s ≤ 4294967295 → operation r m s ≡ answer (r (drop s m) s) → p < s + (length m - s) + 65536
-    near a b q = of (r (drop s m) s) (w .near (drop s m) s (bytes-drop s m hb)) (sym q ∙ e)
+    near : length m ≤ 4294967295 → s ≤ 4294967295 → operation r m s ≡ answer (r (drop s m) s) → p < s + (length m - s) + b
+    near i j q = of (r (drop s m) s) (w .near (drop s m) s (bytes-drop s m hb)) (sym q ∙ e)
 
 pub nearness : Nearness
 nearness =
     record {
-      of-context = λ mode room. wants-near _ (section-into-wants mode room);
-      of-find = λ k. wants-near _ (find-wants k);
-      of-only-authenticated = λ text required room. wants-near _ (only-authenticated-wants text required room);
-      of-keys = λ max room. wants-near _ (keys-into-wants max room);
-      of-body = λ q. wants-near _ (body-wants q);
-      of-auth = λ suite. wants-near _ (auth-wants suite);
+      of-context = λ mode room. wants-within (omega arith) _ (section-into-wants mode room);
+      of-find = λ k. wants-within (omega arith) _ (find-wants k);
+      of-only-authenticated = λ text required room. wants-within (omega arith) _ (only-authenticated-wants text required room);
+      of-keys = λ max room. wants-within (omega arith) _ (keys-into-wants max room);
+      of-body = λ q. wants-within (omega arith) _ (body-wants q);
+      of-auth = λ suite. wants-within (omega arith) _ (auth-wants suite);
+      of-frames = λ frame room n tags contents. wants-within (omega arith) _ (frames-into-wants frame n tags contents room);
     }

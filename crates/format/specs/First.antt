@@ -7,7 +7,7 @@ use mathlib.Core.List.{List, [], _∷_, _++_, map}
 use Prim.Native.Nat.{ℕ, zero, suc, _+_, _*_, _-_}
 use lib.Dec.{leb, ltb, eqb}
 use lib.ListN.{length}
-use Rattle.format.specs.Read.{Reader, End, no-end, end-at, accepted, refused, addressable, operation}
+use Rattle.format.specs.Read.{Reader, End, no-end, end-at, Item, followed, last, accepted, refused, addressable, operation}
 use Rattle.format.specs.Serialize.{every}
 use Rattle.format.specs.Utf8.{valid-utf8-seq}
 use Rattle.format.specs.Shared.{by, one-or-two, known, of-version, suite-version, frame-fits}
@@ -16,8 +16,9 @@ use Rattle.format.specs.Context.{Mode, tolerant, is-strict, seen, read-a
 use Rattle.format.specs.Keys.{Max, within, read-encrypted-data-keys-section-into}
 use Rattle.format.specs.Body.{Which, asked, Request, read-body}
 use Rattle.format.specs.Auth.{read-header-auth-tag}
+use Rattle.format.specs.Frames.{FrameAt, next-number, read-frames-into}
 use Rattle.format.specs.OnlyAuthenticated.{only-authenticated, in-twos, write-only-authenticated}
-use Rattle.format.specs.Places.{number8, number16, number32, entry-here, entry-end, pair-here, pair-end, pairs-end, key-here, key-end, section-pairs, section-keys, section-keys-end, body-here, body-end, value-here, auth-here, auth-end}
+use Rattle.format.specs.Places.{number8, number16, number32, entry-here, entry-end, pair-here, pair-end, pairs-end, key-here, key-end, section-pairs, section-keys, section-keys-end, body-here, body-end, value-here, auth-here, auth-end, run-bound, final-here, frame-here, frame-end, frames-here, frames-end}
 
 -- a line of a list: a refusal's number and position, and whether it applies
 pub record Line : Type 0 where
@@ -158,8 +159,8 @@ unfoldable pub closing-list : Bool → List ℕ → ℕ → List Line
 closing-list v1 m s = lacks 1 m s ∷ unless 17 (one-or-two (number8 m s)) ∷ closing-list-of v1 m (s + 1)
 
 -- the frame length, of a closing at s; true: version 1, which has the reserved bytes and the IV length in front of it
-abbrev pub frame-here : Bool → List ℕ → ℕ → ℕ
-frame-here v1 m s = cond v1 (number32 m (s + 1 + 4 + 1)) (number32 m (s + 1))
+abbrev pub frame-length-here : Bool → List ℕ → ℕ → ℕ
+frame-length-here v1 m s = cond v1 (number32 m (s + 1 + 4 + 1)) (number32 m (s + 1))
 
 -- A body: the context section stands 20 or 35 bytes behind its start, and each part where the one before it ends
 unfoldable pub body-list : Request → List ℕ → ℕ → List Line
@@ -173,7 +174,7 @@ body-list q m s =
     ++ (context-list (q .mode) m aad
     ++ (keys-list (q .max) m edks
     ++ (closing-list v1 m closing
-    ++ (unless 20 (not (q .frames) || frame-fits (number8 m closing) (frame-here v1 m closing))
+    ++ (unless 20 (not (q .frames) || frame-fits (number8 m closing) (frame-length-here v1 m closing))
     ∷ unless 22 (leb (4 * length (section-pairs m aad)) (q .pairRoom))
     ∷ unless 23 (leb (6 * length (section-keys m edks)) (q .keyRoom))
     ∷ [])))))
@@ -200,6 +201,52 @@ only-authenticated-list text required room m s =
     ∷ unless 28 (leb (length (only-authenticated text required (section-pairs m s))) room)
     ∷ [])
 
+-- Items of a run, n at most. Behind the last item there is no line; a run that has not ended after n of them lacks a byte, which no run
+-- of a message does with the bound that it has below.
+abbrev pub behind-list : {A : Type 0} → Item A → (A → List Line) → List Line
+behind-list (followed a) rest = rest a
+behind-list (last a) rest = []
+
+unfoldable pub run-list : {A : Type 0} → (List A → List ℕ → ℕ → List Line) → (List ℕ → ℕ → Item A) → (List ℕ → ℕ → ℕ) → ℕ → List A → List ℕ → ℕ → List Line
+run-list list here end zero done m s = lacks (run-bound m s) m s ∷ []
+run-list list here end (suc n) done m s = list done m s ++ behind-list (here m s) (λ a. run-list list here end n (done ++ (a ∷ [])) m (end m s))
+
+-- A frame, where that sequence number is due: behind its first number (true: the final one), and whole
+unfoldable pub frame-list-of : ℕ → ℕ → Bool → ℕ → List ℕ → ℕ → List Line
+frame-list-of frame due true mark m s =
+    let n = number32 m (s + 4 + 12) in
+    (lacks 4 m s
+    ∷ unless 34 (eqb (number32 m s) due)
+    ∷ lacks 12 m (s + 4)
+    ∷ lacks 4 m (s + 4 + 12)
+    ∷ unless 35 (leb n frame)
+    ∷ lacks n m (s + 4 + 12 + 4)
+    ∷ lacks 16 m (s + 4 + 12 + 4 + n)
+    ∷ [])
+frame-list-of frame due false number m s =
+    unless 34 (eqb number due)
+    ∷ lacks 12 m s
+    ∷ lacks frame m (s + 12)
+    ∷ lacks 16 m (s + 12 + frame)
+    ∷ []
+
+unfoldable pub frame-list : ℕ → ℕ → List ℕ → ℕ → List Line
+frame-list frame due m s = lacks 4 m s ∷ frame-list-of frame due (final-here m s) (number32 m s) m (s + 4)
+
+abbrev pub next-frame-list : ℕ → List FrameAt → List ℕ → ℕ → List Line
+next-frame-list frame done = frame-list frame (next-number done)
+
+-- The frames: 20, then frame by frame, then the table
+unfoldable pub frames-list : ℕ → List ℕ → ℕ → List Line
+frames-list frame m s = run-list (next-frame-list frame) (frame-here frame) (frame-end frame) (run-bound m s) [] m s
+
+unfoldable pub frames-into-list : ℕ → ℕ → List ℕ → ℕ → List Line
+frames-into-list frame room m s =
+    when 20 (eqb frame 0)
+    ∷ (frames-list frame m s
+    ++ (unless 23 (leb (6 * length (frames-here frame m s)) room)
+    ∷ []))
+
 -- AN OPERATION refuses by the first line that applies, 1 in front of them all; where none does it accepts, and gives what stands
 -- there and the place behind it (specs/Places), an empty part with the start that its bytes would have
 abbrev pub operation-list : (List ℕ → ℕ → List Line) → List ℕ → ℕ → List Line
@@ -218,3 +265,4 @@ pub record FirstRefusals : Type 0 where
   pub of-keys : (max : Max) (room : ℕ) (m : List ℕ) (s : ℕ) → FirstRefusal (read-encrypted-data-keys-section-into max room) (keys-into-list max room) section-keys section-keys-end m s
   pub of-body : (q : Request) (m : List ℕ) (s : ℕ) → FirstRefusal (read-body q) (body-list q) body-here body-end m s
   pub of-auth : (suite : ℕ) (m : List ℕ) (s : ℕ) → FirstRefusal (read-header-auth-tag suite) (auth-list suite) (auth-here suite) (auth-end suite) m s
+  pub of-frames : (frame room : ℕ) (m : List ℕ) (s : ℕ) → FirstRefusal (read-frames-into frame room) (frames-into-list frame room) (frames-here frame) (frames-end frame) m s

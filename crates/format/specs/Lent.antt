@@ -12,6 +12,7 @@ use Rattle.format.specs.Context.{write-aad-section}
 use Rattle.format.specs.Keys.{write-encrypted-data-keys-section}
 use Rattle.format.specs.Body.{image}
 use Rattle.format.specs.Auth.{write-header-auth-tag}
+use Rattle.format.specs.Frames.{Frame, FrameAt, frame-places}
 use Rattle.format.specs.Checks.{Check, check, first, pairs-checks, keys-checks, body-checks, auth-checks}
 
 -- the bytes of m at a place
@@ -22,7 +23,7 @@ bytes-at m start size = take size (drop start m)
 abbrev pub filled : List ℕ → List ℕ → List ℕ
 filled front lent = front ++ drop (length front) lent
 
--- READING. A place is two numbers, a start and a length: four numbers a pair, six a key.
+-- READING. A place is two numbers, a start and a length: four numbers a pair, six a key or a frame.
 abbrev pub place : Part → List ℕ
 place p = p .start ∷ length (p .bytes) ∷ []
 
@@ -31,6 +32,9 @@ pair-numbers ps = images place (images pair-places ps)
 
 abbrev pub key-numbers : List EncryptedDataKeyAt → List ℕ
 key-numbers ks = images place (images key-places ks)
+
+abbrev pub frame-numbers : List FrameAt → List ℕ
+frame-numbers fs = images place (images frame-places fs)
 
 -- a reader's table afterwards: on a refusal it is as it was
 abbrev pub table-after : {A : Type 0} → (A → List ℕ) → Answer A → List ℕ → List ℕ
@@ -67,6 +71,9 @@ pair-in text table at = record { key = part-in text table at; value = part-in te
 abbrev pub key-in : List ℕ → List ℕ → ℕ → EncryptedDataKey
 key-in text table at =
     record { keyProviderId = part-in text table at; keyProviderInfo = part-in text table (at + 2); ciphertext = part-in text table (at + 2 + 2) }
+
+abbrev pub frame-in : List ℕ → List ℕ → ℕ → Frame
+frame-in text table at = record { iv = part-in text table at; content = part-in text table (at + 2); tag = part-in text table (at + 2 + 2) }
 
 abbrev pub pairs-in : List ℕ → List ℕ → List Pair
 pairs-in text table = items (pair-in text table) 4 (length table / 4) 0

@@ -7,6 +7,7 @@ pub mod Context
 pub mod Keys
 pub mod Body
 pub mod Auth
+pub mod Frames
 pub mod Checks
 pub mod Lent
 pub mod Sorted
@@ -18,6 +19,7 @@ pub mod Refusals
 pub mod Demand3
 pub mod WrittenBack
 pub mod Sections
+pub mod FrameLaws
 pub mod Characters
 pub mod Lengths
 pub mod Pinned

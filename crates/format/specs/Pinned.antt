@@ -18,7 +18,8 @@ use Rattle.format.specs.Context.{seen, linear-length, write-aad-pairs}
 use Rattle.format.specs.Keys.{Max, no-max, at-most, within, write-encrypted-data-keys}
 use Rattle.format.specs.Body.{Which, either, tests-frames}
 use Rattle.format.specs.Checks.{Check, first, fits-form}
-use Rattle.format.specs.Lent.{bytes-at, filled, pair-numbers, key-numbers, items, pair-in, key-in, table-checks}
+use Rattle.format.specs.Lent.{bytes-at, filled, pair-numbers, key-numbers, frame-numbers, items, pair-in, key-in, frame-in, table-checks}
+use Rattle.format.specs.Frames.{FrameAt, frame-of, frame-places}
 use Rattle.format.specs.Places.{number8}
 use Rattle.format.specs.First.{NoneApplies, operation-list, opening-list}
 use Rattle.format.specs.Demand3.{Held, Each, reaches-old, Has}
@@ -109,6 +110,7 @@ pub record Pinned : Type 0 where
   -- a reader's table, read as a writer reads it, has the bytes of what the reader gave; what lies behind its numbers keeps
   pub pair-table : (m table : List ℕ) (ps : List PairAt) → Each (Held m) (images pair-places ps) → items (pair-in m (filled (pair-numbers ps) table)) 4 (length ps) 0 ≡ map pair-of ps
   pub key-table : (m table : List ℕ) (ks : List EncryptedDataKeyAt) → Each (Held m) (images key-places ks) → items (key-in m (filled (key-numbers ks) table)) 6 (length ks) 0 ≡ map key-of ks
+  pub frame-table : (m table : List ℕ) (fs : List FrameAt) → Each (Held m) (images frame-places fs) → items (frame-in m (filled (frame-numbers fs) table)) 6 (length fs) 0 ≡ map frame-of fs
   pub in-front : (front lent : List ℕ) → take (length front) (filled front lent) ≡ front
   pub beyond : (front lent : List ℕ) → drop (length front) (filled front lent) ≡ drop (length front) lent
   -- what pairs take is what their entries take

@@ -2,14 +2,16 @@
 -- a byte behind the message's end counts as 00. Assumes nothing.
 use mathlib.Core.Bool.{Bool, true, false, cond}
 use mathlib.Core.List.{List, [], _∷_}
-use Prim.Native.Nat.{ℕ, zero, suc, _+_, _*_}
+use Prim.Native.Nat.{ℕ, zero, suc, _+_, _*_, _-_}
 use lib.Dec.{eqb}
-use lib.ListN.{getD, take, drop}
+use lib.ListN.{length, getD, take, drop}
+use Rattle.format.specs.Read.{Item, followed, last}
 use Rattle.format.specs.Serialize.{Part, number, same-bytes}
 use Rattle.format.specs.Shared.{by, suite-version}
 use Rattle.format.specs.Fields.{Form, today, old, PairAt, EncryptedDataKeyAt, HeaderBody}
 use Rattle.format.specs.Body.{Opening, Closing, whole}
 use Rattle.format.specs.Auth.{HeaderAuth, zeros}
+use Rattle.format.specs.Frames.{FrameAt, final-mark}
 
 -- the number of that many bytes
 abbrev pub number-here : ℕ → List ℕ → ℕ → ℕ
@@ -138,3 +140,56 @@ auth-here suite = auth-of-here (eqb (suite-version suite) 1)
 
 abbrev pub auth-end : ℕ → List ℕ → ℕ → ℕ
 auth-end suite m s = cond (eqb (suite-version suite) 1) (s + 12 + 16) (s + 16)
+
+-- items of a run from s on, n at most: `here` is what stands at a place, and `end` the place behind it
+abbrev pub with-item : {A : Type 0} → Item A → List A → List A
+with-item (followed a) rest = a ∷ rest
+with-item (last a) rest = a ∷ []
+
+unfoldable pub run-here : {A : Type 0} → (List ℕ → ℕ → Item A) → (List ℕ → ℕ → ℕ) → List ℕ → ℕ → ℕ → List A
+run-here here end m zero s = []
+run-here here end m (suc n) s = with-item (here m s) (run-here here end m n (end m s))
+
+-- the place behind the last of them
+abbrev pub behind-item : {A : Type 0} → Item A → ℕ → ℕ → ℕ
+behind-item (followed a) t rest = rest
+behind-item (last a) t rest = t
+
+unfoldable pub run-end : {A : Type 0} → (List ℕ → ℕ → Item A) → (List ℕ → ℕ → ℕ) → List ℕ → ℕ → ℕ → ℕ
+run-end here end m zero s = s
+run-end here end m (suc n) s = behind-item (here m s) (end m s) (run-end here end m n (end m s))
+
+-- a bound that no run of a message reaches, from s on
+abbrev pub run-bound : List ℕ → ℕ → ℕ
+run-bound m s = suc (length m - s)
+
+-- whether a final frame stands at s
+abbrev pub final-here : List ℕ → ℕ → Bool
+final-here m s = eqb (number32 m s) final-mark
+
+-- an IV at one place, and n bytes of content with the tag behind them at another
+abbrev pub sealed-here : List ℕ → ℕ → ℕ → ℕ → FrameAt
+sealed-here m iv s n = record { iv = part-of m iv 12; content = part-of m s n; tag = part-of m (s + n) 16 }
+
+-- a frame of a frame length, behind its first number, and the place behind it; true: the final one, which has its own number and its
+-- content's length
+unfoldable pub frame-of-here : ℕ → Bool → List ℕ → ℕ → Item FrameAt
+frame-of-here frame true m s = last (sealed-here m (s + 4) (s + 4 + 12 + 4) (number32 m (s + 4 + 12)))
+frame-of-here frame false m s = followed (sealed-here m s (s + 12) frame)
+
+unfoldable pub frame-of-end : ℕ → Bool → List ℕ → ℕ → ℕ
+frame-of-end frame true m s = s + 4 + 12 + 4 + number32 m (s + 4 + 12) + 16
+frame-of-end frame false m s = s + 12 + frame + 16
+
+abbrev pub frame-here : ℕ → List ℕ → ℕ → Item FrameAt
+frame-here frame m s = frame-of-here frame (final-here m s) m (s + 4)
+
+abbrev pub frame-end : ℕ → List ℕ → ℕ → ℕ
+frame-end frame m s = frame-of-end frame (final-here m s) m (s + 4)
+
+-- frames up to the final one, and the place behind it
+abbrev pub frames-here : ℕ → List ℕ → ℕ → List FrameAt
+frames-here frame m s = run-here (frame-here frame) (frame-end frame) m (run-bound m s) s
+
+abbrev pub frames-end : ℕ → List ℕ → ℕ → ℕ
+frames-end frame m s = run-end (frame-here frame) (frame-end frame) m (run-bound m s) s

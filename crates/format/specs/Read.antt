@@ -67,6 +67,27 @@ module _ {A : Type 0} where
       elim (leb n (length l))
       [ true ↦ (r (end-at (s + n)) >>= λ a l′ t. go-on (test k (eqb t (s + n)) l′ t) (λ u. return a)) l s | false ↦ more-needed (s + n) ]
 
+-- an item of a run: one that another follows, or the last one
+pub data Item (A : Type 0) : Type 0 where
+  followed : A → Item A
+  last : A → Item A
+
+module _ {A : Type 0} where
+  -- behind an item: the rest of the run, or nothing more
+  abbrev pub behind : (List A → Reader (List A)) → List A → Item A → Reader (List A)
+  behind rest acc (followed a) = rest (acc ++ (a ∷ []))
+  behind rest acc (last a) = return (acc ++ (a ∷ []))
+
+  -- items up to the last one, each read in the light of those before it, of which there are n at most: a run that has not ended by
+  -- then wants a byte more than is left
+  unfoldable pub until : ℕ → (List A → Reader (Item A)) → List A → Reader (List A)
+  until zero step acc l s = more-needed (s + suc (length l))
+  until (suc n) step acc l s = (step acc >>= behind (until n step) acc) l s
+
+  -- A run of any length: where each item takes a byte at least, this bound, one above the bytes left, never cuts it short (specs/FrameLaws).
+  unfoldable pub run : (List A → Reader (Item A)) → List A → Reader (List A)
+  run step acc l s = until (suc (length l)) step acc l s
+
 -- what an operation answers: what was read and the tail, or a refusal's number and position
 pub data Answer (A : Type 0) : Type 0 where
   accepted : A → ℕ → Answer A

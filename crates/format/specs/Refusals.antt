@@ -11,6 +11,7 @@ use Rattle.format.specs.Context.{Mode, tolerant, strict, read-aad-sectio
 use Rattle.format.specs.Keys.{Max, read-encrypted-data-keys-section-into}
 use Rattle.format.specs.Body.{Which, either, v1-only, v2-only, Request, read-body}
 use Rattle.format.specs.Auth.{read-header-auth-tag}
+use Rattle.format.specs.Frames.{read-frames-into}
 use Rattle.format.specs.OnlyAuthenticated.{write-only-authenticated}
 
 -- only the strict mode answers 21
@@ -56,6 +57,10 @@ body-refusals q = 1 ∷ 2 ∷ (opening-refusals (q .which) ++ (section-refusals 
 unfoldable pub auth-refusals : List ℕ
 auth-refusals = 1 ∷ 2 ∷ 6 ∷ []
 
+-- 34 and 35 of one frame after the other
+unfoldable pub frames-refusals : List ℕ
+frames-refusals = 1 ∷ 2 ∷ 20 ∷ 34 ∷ 35 ∷ 23 ∷ []
+
 -- a refusal of the list, with its position: for 2 one that lies beyond the message's end, else 0
 pub record Refusal (listed : List ℕ) (m : List ℕ) (number position : ℕ) : Type 0 where
   pub is-listed : List·Memᴰ number listed
@@ -73,10 +78,15 @@ pub record Refusals : Type 0 where
   pub of-keys : (max : Max) (room : ℕ) → RefusesBy keys-refusals (read-encrypted-data-keys-section-into max room)
   pub of-body : (q : Request) → RefusesBy (body-refusals q) (read-body q)
   pub of-auth : (suite : ℕ) → RefusesBy auth-refusals (read-header-auth-tag suite)
+  pub of-frames : (frame room : ℕ) → RefusesBy frames-refusals (read-frames-into frame room)
 
--- what is wanted is never far: fewer than 65,536 bytes behind the message's end, or behind a start that lies beyond it
+-- what is wanted is never far: fewer than n bytes behind the message's end, or behind a start that lies beyond it
+abbrev pub WantsWithin : {A : Type 0} → ℕ → Reader A → Type 0
+WantsWithin n r = (m : List ℕ) (s p : ℕ) → Bytes m → operation r m s ≡ refused 2 p → p < s + (length m - s) + n
+
+-- of a header fewer than 65,536
 abbrev pub WantsNear : {A : Type 0} → Reader A → Type 0
-WantsNear r = (m : List ℕ) (s p : ℕ) → Bytes m → operation r m s ≡ refused 2 p → p < s + (length m - s) + 65536
+WantsNear r = WantsWithin 65536 r
 
 pub record Nearness : Type 0 where
   pub of-context : (mode : Mode) (room : ℕ) → WantsNear (read-aad-section-into mode room)
@@ -85,3 +95,5 @@ pub record Nearness : Type 0 where
   pub of-keys : (max : Max) (room : ℕ) → WantsNear (read-encrypted-data-keys-section-into max room)
   pub of-body : (q : Request) → WantsNear (read-body q)
   pub of-auth : (suite : ℕ) → WantsNear (read-header-auth-tag suite)
+  -- of frames as many as a tag or the content takes, at most
+  pub of-frames : (frame room n : ℕ) → 16 < n → frame < n → WantsWithin n (read-frames-into frame room)
