@@ -12,7 +12,8 @@ use Rattle.format.specs.Fields.{PairAt, EncryptedDataKeyAt}
 use Rattle.format.specs.Context.{read-aad-section-into}
 use Rattle.format.specs.Keys.{read-encrypted-data-keys-section-into}
 use Rattle.format.specs.Auth.{HeaderAuth as AuthTag}
-use Rattle.format.specs.Lent.{Writing, written, pair-numbers, key-numbers}
+use Rattle.format.specs.Frames.{FrameAt}
+use Rattle.format.specs.Lent.{Writing, written, pair-numbers, key-numbers, frame-numbers}
 use Rattle.wire.specs.declared.Refusal.{Refusal}
 use Rattle.request.specs.Codes.{mode-of, max-of}
 use Rattle.request.specs.declared.Max.{Max}
@@ -28,6 +29,9 @@ use Rattle.context.specs.declared.FoundAnswer.the-variants as found
 use Rattle.keys.specs.Codes.{keys-of}
 use Rattle.keys.specs.declared.KeysAnswer.{KeysAnswer}
 use Rattle.keys.specs.declared.KeysAnswer.the-variants as keys
+use Rattle.frames.specs.Codes.{frames-of}
+use Rattle.frames.specs.declared.FramesAnswer.{FramesAnswer}
+use Rattle.frames.specs.declared.FramesAnswer.the-variants as frames
 use Rattle.auth.specs.Codes.{auth-of}
 use Rattle.auth.specs.declared.AuthRead.{AuthRead}
 use Rattle.checks.specs.Answers.{write-answer-of}
@@ -40,7 +44,7 @@ use Rattle.bafirolen_c.specs.declared.BafirolenAuth.{BafirolenAuth}
 use Rattle.bafirolen_c.specs.declared.BafirolenPlace.{BafirolenPlace}
 use Rattle.bafirolen_c.specs.declared.BafirolenWritten.{BafirolenWritten}
 use Rattle.bafirolen_c.specs.Asked.{which-asked, mode-asked, max-asked, request-asked}
-use Rattle.bafirolen_c.specs.Exports.{section-record, context-fields, keys-fields, auth-record, auth-fields, place-record, found-fields, wrote, written-record, write-fields, image-record, Writes}
+use Rattle.bafirolen_c.specs.Exports.{section-with, no-section, section-record, context-fields, keys-fields, frames-fields, auth-record, auth-fields, place-record, found-fields, wrote, written-record, write-fields, image-record, Writes}
 
 -- a number that is tested
 module _ {A : Type 0} (n k : ℕ) (x y : A) where
@@ -55,17 +59,25 @@ pub request-of : (w n h x : ℕ) (which : Which) (mode : Mode) (max : Max) → w
 request-of w n h x which mode max e f g = rw (e, f, g)
 
 -- what was read
-pub context-accepted : (a : ContextAnswer) (n t : ℕ) → a ≡ context.Accepted n t → record { number = 0; position = 0; count = n; tail = t } ≡ context-fields a
-context-accepted a n t e = sym (ap context-fields e)
+module _ (n t : ℕ) (r : BafirolenSection) (is : r ≡ section-with n t) where
+  pub context-accepted : (a : ContextAnswer) → a ≡ context.Accepted n t → r ≡ context-fields a
+  context-accepted a e = is ∙ sym (ap context-fields e)
 
-pub context-refused : (a : ContextAnswer) (q : Refusal) → a ≡ context.Refused q → record { number = q .number; position = q .position; count = 0; tail = 0 } ≡ context-fields a
-context-refused a q e = sym (ap context-fields e)
+  pub keys-accepted : (a : KeysAnswer) → a ≡ keys.Accepted n t → r ≡ keys-fields a
+  keys-accepted a e = is ∙ sym (ap keys-fields e)
 
-pub keys-accepted : (a : KeysAnswer) (n t : ℕ) → a ≡ keys.Accepted n t → record { number = 0; position = 0; count = n; tail = t } ≡ keys-fields a
-keys-accepted a n t e = sym (ap keys-fields e)
+  pub frames-accepted : (a : FramesAnswer) → a ≡ frames.Accepted n t → r ≡ frames-fields a
+  frames-accepted a e = is ∙ sym (ap frames-fields e)
 
-pub keys-refused : (a : KeysAnswer) (q : Refusal) → a ≡ keys.Refused q → record { number = q .number; position = q .position; count = 0; tail = 0 } ≡ keys-fields a
-keys-refused a q e = sym (ap keys-fields e)
+module _ (q : Refusal) (r : BafirolenSection) (is : r ≡ no-section (q .number) (q .position)) where
+  pub context-refused : (a : ContextAnswer) → a ≡ context.Refused q → r ≡ context-fields a
+  context-refused a e = is ∙ sym (ap context-fields e)
+
+  pub keys-refused : (a : KeysAnswer) → a ≡ keys.Refused q → r ≡ keys-fields a
+  keys-refused a e = is ∙ sym (ap keys-fields e)
+
+  pub frames-refused : (a : FramesAnswer) → a ≡ frames.Refused q → r ≡ frames-fields a
+  frames-refused a e = is ∙ sym (ap frames-fields e)
 
 pub found-there : (a : FoundAnswer) (s n : ℕ) → a ≡ found.At s n → record { number = 0; position = 0; start = s; len = n } ≡ found-fields a
 found-there a s n e = sym (ap found-fields e)
@@ -88,6 +100,10 @@ context-as (refused k p) = refl
 keys-as : (o : Answer (List EncryptedDataKeyAt)) → keys-fields (keys-of o) ≡ section-record o
 keys-as (accepted ks t) = refl
 keys-as (refused k p) = refl
+
+frames-as : (o : Answer (List FrameAt)) → frames-fields (frames-of o) ≡ section-record o
+frames-as (accepted fs t) = refl
+frames-as (refused k p) = refl
 
 auth-as : (o : Answer AuthTag) → auth-fields (auth-of o) ≡ auth-record o
 auth-as (accepted a t) = refl
@@ -119,6 +135,10 @@ pub keys-cross : (w n h x : ℕ) (q : Request) → q ≡ request-asked w n h x �
     → Reads section-record key-numbers (operation (read-encrypted-data-keys-section-into (max-of (max-asked h x)) (length before)) m s) before after r
 keys-cross w n h x q is m before after s a f r e =
     reads-cross keys-of keys-fields section-record keys-as key-numbers _ before after a r e (rw is at f)
+
+pub frames-cross : (o : Answer (List FrameAt)) (before after : List ℕ) (a : FramesAnswer) → Reads frames-of frame-numbers o before after a → (r : BafirolenSection) → r ≡ frames-fields a
+    → Reads section-record frame-numbers o before after r
+frames-cross o before after a f r e = reads-cross frames-of frames-fields section-record frames-as frame-numbers o before after a r e f
 
 pub auth-crosses : (o : Answer AuthTag) (a : AuthRead) (r : BafirolenAuth) → r ≡ auth-fields a → a ≡ auth-of o → r ≡ auth-record o
 auth-crosses o a r e f = e ∙ ap auth-fields f ∙ auth-as o

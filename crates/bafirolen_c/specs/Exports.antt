@@ -18,6 +18,8 @@ use Rattle.context.specs.declared.FoundAnswer.{FoundAnswer}
 use Rattle.context.specs.declared.FoundAnswer.the-variants as found
 use Rattle.keys.specs.declared.KeysAnswer.{KeysAnswer}
 use Rattle.keys.specs.declared.KeysAnswer.the-variants as keys
+use Rattle.frames.specs.declared.FramesAnswer.{FramesAnswer}
+use Rattle.frames.specs.declared.FramesAnswer.the-variants as frames
 use Rattle.auth.specs.declared.AuthRead.{AuthRead}
 use Rattle.body_reader.specs.Codes.{body-code}
 use Rattle.body_reader.specs.declared.HeaderBody.{HeaderBody as BodyCode}
@@ -31,18 +33,28 @@ use Rattle.bafirolen_c.specs.declared.BafirolenBody.{BafirolenBody}
 use Rattle.bafirolen_c.specs.declared.BafirolenPlace.{BafirolenPlace}
 use Rattle.bafirolen_c.specs.declared.BafirolenWritten.{BafirolenWritten}
 
--- a section of pairs or of keys
+-- a section of pairs or of keys, and frames: how many, and the tail
+abbrev pub section-with : ℕ → ℕ → BafirolenSection
+section-with n t = record { number = 0; position = 0; count = n; tail = t }
+
+abbrev pub no-section : ℕ → ℕ → BafirolenSection
+no-section k p = record { number = k; position = p; count = 0; tail = 0 }
+
 abbrev pub section-record : {A : Type 0} → Answer (List A) → BafirolenSection
-section-record (accepted items t) = record { number = 0; position = 0; count = length items; tail = t }
-section-record (refused k p) = record { number = k; position = p; count = 0; tail = 0 }
+section-record (accepted items t) = section-with (length items) t
+section-record (refused k p) = no-section k p
 
 abbrev pub context-fields : ContextAnswer → BafirolenSection
-context-fields (context.Accepted n t) = record { number = 0; position = 0; count = n; tail = t }
-context-fields (context.Refused q) = record { number = q .number; position = q .position; count = 0; tail = 0 }
+context-fields (context.Accepted n t) = section-with n t
+context-fields (context.Refused q) = no-section (q .number) (q .position)
 
 abbrev pub keys-fields : KeysAnswer → BafirolenSection
-keys-fields (keys.Accepted n t) = record { number = 0; position = 0; count = n; tail = t }
-keys-fields (keys.Refused q) = record { number = q .number; position = q .position; count = 0; tail = 0 }
+keys-fields (keys.Accepted n t) = section-with n t
+keys-fields (keys.Refused q) = no-section (q .number) (q .position)
+
+abbrev pub frames-fields : FramesAnswer → BafirolenSection
+frames-fields (frames.Accepted n t) = section-with n t
+frames-fields (frames.Refused q) = no-section (q .number) (q .position)
 
 -- an authentication record
 abbrev pub auth-record : Answer AuthTag → BafirolenAuth

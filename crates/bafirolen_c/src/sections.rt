@@ -1,38 +1,50 @@
-// The sections on their own.
+// The sections on their own, and the frames.
 use crate::BafirolenSection;
 use crate::asked::request_asked;
 use context::ContextAnswer;
+use frames::FramesAnswer;
 use keys::KeysAnswer;
+use wire::Refusal;
 ghost use mathlib.Core.Path.{_≡_};
 ghost use lib.ListN.{length};
 ghost use Rattle.format.specs.Read.{operation};
 ghost use Rattle.format.specs.Context.{read-aad-section-into};
 ghost use Rattle.format.specs.Keys.{read-encrypted-data-keys-section-into};
-ghost use Rattle.format.specs.Lent.{pair-numbers, key-numbers};
+ghost use Rattle.format.specs.Frames.{read-frames-into};
+ghost use Rattle.format.specs.Lent.{pair-numbers, key-numbers, frame-numbers};
 ghost use Rattle.request.specs.Codes.{mode-of, max-of};
 ghost use Rattle.entries.specs.Codes.{Reads};
 ghost use Rattle.bafirolen_c.specs.Asked.{mode-asked, max-asked};
-ghost use Rattle.bafirolen_c.specs.Exports.{section-record, context-fields, keys-fields};
+ghost use Rattle.bafirolen_c.specs.Exports.{section-record, section-with, no-section, context-fields, keys-fields, frames-fields};
+
+fn section(count: u64, tail: u64) -> BafirolenSection
+    ensures { λ r. ⌜ r ≡ section-with count tail ⌝ }
+{
+    BafirolenSection {
+        number: 0,
+        position: 0,
+        count,
+        tail,
+    }
+}
+
+fn no_section(q: Refusal) -> BafirolenSection
+    ensures { λ r. ⌜ r ≡ no-section (q .number) (q .position) ⌝ }
+{
+    BafirolenSection {
+        number: q.number as u64,
+        position: q.position,
+        count: 0,
+        tail: 0,
+    }
+}
 
 fn context_record(a: ContextAnswer) -> BafirolenSection
     ensures { λ r. ⌜ r ≡ context-fields a ⌝ }
 {
     match a {
-        ContextAnswer::Accepted {
-            pairCount: pairs,
-            tail,
-        } => BafirolenSection {
-            number: 0,
-            position: 0,
-            count: pairs,
-            tail,
-        },
-        ContextAnswer::Refused(q) => BafirolenSection {
-            number: q.number as u64,
-            position: q.position,
-            count: 0,
-            tail: 0,
-        },
+        ContextAnswer::Accepted { pairCount, tail } => section(pairCount, tail),
+        ContextAnswer::Refused(q) => no_section(q),
     }
 }
 
@@ -53,21 +65,8 @@ fn keys_record(a: KeysAnswer) -> BafirolenSection
     ensures { λ r. ⌜ r ≡ keys-fields a ⌝ }
 {
     match a {
-        KeysAnswer::Accepted {
-            keyCount: keys,
-            tail,
-        } => BafirolenSection {
-            number: 0,
-            position: 0,
-            count: keys,
-            tail,
-        },
-        KeysAnswer::Refused(q) => BafirolenSection {
-            number: q.number as u64,
-            position: q.position,
-            count: 0,
-            tail: 0,
-        },
+        KeysAnswer::Accepted { keyCount, tail } => section(keyCount, tail),
+        KeysAnswer::Refused(q) => no_section(q),
     }
 }
 
@@ -89,4 +88,26 @@ pub extern "C" fn bafirolen_read_encrypted_data_keys_section(
         request_asked(0, 0, hasMax, max),
         table,
     ))
+}
+
+fn frames_record(a: FramesAnswer) -> BafirolenSection
+    ensures { λ r. ⌜ r ≡ frames-fields a ⌝ }
+{
+    match a {
+        FramesAnswer::Accepted { frameCount, tail } => section(frameCount, tail),
+        FramesAnswer::Refused(q) => no_section(q),
+    }
+}
+
+// The places of the frames go into the table, six numbers a frame; on a refusal it keeps.
+#[no_mangle]
+pub extern "C" fn bafirolen_read_frames(
+    m: &[u8],
+    start: u64,
+    frameLength: u32,
+    table: &mut [u32],
+) -> BafirolenSection
+    ensures { λ r. ⌜ Reads section-record frame-numbers (operation (read-frames-into frameLength (length (now (table .entry)))) (now (m .entry)) start) (now (table .entry)) (now (table .exit)) r ⌝ }
+{
+    frames_record(frames::read_frames(m, start, frameLength, table))
 }

@@ -1,4 +1,4 @@
--- A table of places: what it holds in the end is what it holds now with the places of the entries left stored. Assumes nothing.
+-- A table of places: that of the entries, filled in a loop; and the contract of a reader with a table. Assumes nothing.
 use mathlib.Core.Path.{_≡_, refl, sym, ap, _∙_}
 use mathlib.Core.Bool.{Bool, true, false}
 use mathlib.Core.List.{List, [], _∷_, _++_}
@@ -16,7 +16,7 @@ use Rattle.steps.proofs.Numbers.{length-part}
 use Rattle.steps.proofs.Operations.{operation-guarded, operation-reached}
 use Rattle.entries.specs.Codes.{EntryIs, Reads}
 use Rattle.entries.specs.declared.Entry.{Entry}
-use Rattle.entries.proofs.Items.{reach, end-step, here-length, here-step}
+use Rattle.entries.proofs.Fills.{Numbered, Fills, fills-start, fills-next, fills-more, fills-end}
 
 pub put-both : (t : List ℕ) (j a b : ℕ) → set (set t j a) (j + 1) b ≡ sets t j (a ∷ b ∷ [])
 put-both t j a b = rw add-one
@@ -24,61 +24,28 @@ put-both t j a b = rw add-one
 pub second-in : (t : List ℕ) (j a : ℕ) → j + 2 ≤ length t → j + 1 < length (set t j a)
 second-in t j a h = simp length-set (omega arith)
 
-numbers-length : (ps : List Part) → length (images place ps) ≡ 2 * length ps
-unfolding images
-numbers-length [] = refl
-numbers-length (p ∷ ps) = let e = numbers-length ps in omega arith
+entries-numbered : Numbered entry-end place 2
+entries-numbered = record { forward = λ m s. omega arith; many = λ p. refl }
 
-stored-all : (table : List ℕ) (ps : List Part) → 2 * length ps ≤ length table → sets table 0 (images place ps) ≡ filled (images place ps) table
-stored-all table ps h = sets-eq (images place ps) table 0 (omega (arith, numbers-length ps)) ∙ rw zero-add
-
-forward : (m : List ℕ) (s : ℕ) → s ≤ entry-end m s
-forward m s = omega arith
-
--- one of the entries left, from a place on
-module _ (m : List ℕ) (n i s : ℕ) (h : i < n) (inside : entries-end m (n - i) s ≤ length m) where
-  pub entry-next : entry-end m s ≤ length m
-  entry-next = omega (arith, end-step entry-end m n i s h, reach entry-end m (forward m) (n - (i + 1)) (entry-end m s))
-
-  entry-more : entries-end m (n - (i + 1)) (entry-end m s) ≤ length m
-  entry-more = rw (end-step entry-end m n i s h) at inside
-
-  numbers-step : images place (entries-here m (n - i) s) ≡ (s + 2) ∷ number16 m s ∷ images place (entries-here m (n - (i + 1)) (entry-end m s))
-  unfolding images
-  numbers-step = rw (here-step entry-here entry-end m n i s h, length-part m (s + 2) (number16 m s) entry-next)
-
--- the loop's invariant
-pub record Filled (m table₀ table : List ℕ) (first n i j s : ℕ) : Type 0 where
-  pub some : i ≤ n
-  pub room : j ≡ 2 * i
-  pub inside : i < n → entries-end m (n - i) s ≤ length m
-  pub long : length table ≡ length table₀
-  pub same : sets table₀ 0 (images place (entries-here m n first)) ≡ sets table j (images place (entries-here m (n - i) s))
+-- the loop over entries
+abbrev pub Filled : List ℕ → List ℕ → List ℕ → ℕ → ℕ → ℕ → ℕ → ℕ → Type 0
+Filled m table₀ table first n i j s = Fills entry-here entry-end place 2 m table₀ table first n i j s
 
 pub filled-start : (m t : List ℕ) (first n : ℕ) → (0 < n → entries-end m n first ≤ length m) → Filled m t t first n 0 0 first
-filled-start m t first n h = record { some = omega arith; room = refl; inside = rw sub-zero h; long = refl; same = rw sub-zero }
+filled-start m t first n h = fills-start m t first n h
 
 module _ (m t₀ t : List ℕ) (first n i j s : ℕ) (w : Filled m t₀ t first n i j s) where
   module _ (h : i < n) where
     pub filled-next : entry-end m s ≤ length m
-    filled-next = entry-next m n i s h (w .inside h)
+    filled-next = fills-next entries-numbered m t₀ t first n i j s w h
 
     pub filled-more : (e : Entry) → EntryIs m s e → (t′ : List ℕ) → t′ ≡ sets t j (e .start ∷ e .len ∷ []) → Filled m t₀ t′ first n (i + 1) (j + 2) (e .tail)
     filled-more e is t′ f =
-        let two : j + 2 ≡ suc (suc j) = omega arith in
-        record {
-          some = omega arith;
-          room = omega (arith, w .room);
-          inside = λ _. rw (is .ends) (entry-more m n i s h (w .inside h));
-          long = rw f (length-sets t j (e .start ∷ e .len ∷ []) ∙ w .long);
-          same = w .same ∙ rw (numbers-step m n i s h (w .inside h), two, f, is .ends, is .starts, is .size);
-        }
+        let long = length-part m (s + 2) (number16 m s) filled-next in
+        fills-more entries-numbered m t₀ t first n i j s w h t′ (j + 2) (e .tail) (f ∙ rw (is .starts, is .size, long)) refl (is .ends)
 
   pub filled-end : 2 * n ≤ length t₀ → n ≤ i → t ≡ filled (images place (entries-here m n first)) t₀
-  unfolding images items-here
-  filled-end r h =
-      let e : n - i ≡ 0 = omega arith in
-      sym (w .same ∙ rw e) ∙ stored-all t₀ (entries-here m n first) (rw (here-length entry-here entry-end m n first) r)
+  filled-end r h = fills-end entries-numbered m t₀ t first n i j s w r h
 
 -- the contract of a reader with a table: a refusal leaves it
 module _ {A R : Type 0} (code : Answer A → R) (numbers : A → List ℕ) (o : Answer A) (table : List ℕ) (r : R) where

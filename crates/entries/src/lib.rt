@@ -53,7 +53,7 @@ pub fn known_entry(m: &[u8], s: u64) -> Entry
 }
 
 // Stores the two numbers of a place.
-fn put_place(table: &mut [u32], j: usize, start: u64, len: u64)
+pub fn put_place(table: &mut [u32], j: usize, start: u64, len: u64)
     requires { ⌜ (j + 2 ≤ length (now table)) × (start + len < 4294967296) ⌝ }
     ensures { λ _. ⌜ now (table .exit) ≡ sets (now (table .entry)) j (start ∷ len ∷ []) ⌝ }
 {

@@ -36,9 +36,13 @@ frame-goes : (frame due : ℕ) → Goes (read-frame frame due) (frame-list frame
 unfolding read-frame frame-list
 frame-goes frame due = bind-goes uint32-goes (λ number. frame-of-goes frame due _ number)
 
+pub frames-goes : (frame : ℕ) → Goes (read-frames frame) (frames-list frame) (frames-here frame) (frames-end frame)
+unfolding read-frames frames-list
+frames-goes frame = run-goes (λ done. frame-goes frame (next-number done)) []
+
 pub frames-into-goes : (frame room : ℕ) → Goes (read-frames-into frame room) (frames-into-list frame room) (frames-here frame) (frames-end frame)
-unfolding read-frames-into read-frames frames-into-list frames-list
-frames-into-goes frame room = not-goes 20 _ (bind-goes (run-goes (λ done. frame-goes frame (next-number done)) []) (λ fs. test-goes 23 _ (return-goes fs)))
+unfolding read-frames-into frames-into-list
+frames-into-goes frame room = not-goes 20 _ (bind-goes (frames-goes frame) (λ fs. test-goes 23 _ (return-goes fs)))
 
 -- by their refusals
 sealed-listed : (iv : Part) (n : ℕ) → Listed [] (read-sealed iv n)

@@ -124,15 +124,21 @@ pub record Goes {A : Type 0} (r : Reader A) (list : List ℕ → ℕ → List Li
   pub passes : (m : List ℕ) (s : ℕ) → first-line (list m s) ≡ none → r (drop s m) s ≡ success (value m s) (drop (end m s) m) (end m s)
   pub stops : (m : List ℕ) (s : ℕ) (x : Line) → first-line (list m s) ≡ some x → answer (r (drop s m) s) ≡ refused (x .number) (x .position)
 
--- where a reader accepts, it gives that value
-pub goes-accepted : {A : Type 0} {r : Reader A} {list : List ℕ → ℕ → List Line} {value : List ℕ → ℕ → A} {end : List ℕ → ℕ → ℕ} → Goes r list value end
-    → (m : List ℕ) (s : ℕ) (a : A) (t : ℕ) → at r m s ≡ accepted a t → a ≡ value m s
-unfolding at
-goes-accepted {A} {r} {list} {value} {end} h m s a t e = by (first-line (list m s)) refl
-  where
-    by : (x : Option Line) → first-line (list m s) ≡ x → a ≡ value m s
-    by none q = let z : _≡_ {A = Answer A} (accepted (value m s) (end m s)) (accepted a t) = sym (ap answer (h .passes m s q)) ∙ e in cc
-    by (some x) q = let z : _≡_ {A = Answer A} (refused (x .number) (x .position)) (accepted a t) = sym (h .stops m s x q) ∙ e in let w : _≡_ {A = ℕ} 0 1 = cc in absurd (omega arith)
+-- where a reader accepts, it gives that value and that end
+module _ {A : Type 0} {r : Reader A} {list : List ℕ → ℕ → List Line} {value : List ℕ → ℕ → A} {end : List ℕ → ℕ → ℕ} (h : Goes r list value end) (m : List ℕ) (s : ℕ) (a : A) (t : ℕ) (e : at r m s ≡ accepted a t) where
+  goes-there : _≡_ {A = Answer A} (accepted (value m s) (end m s)) (accepted a t)
+  unfolding at
+  goes-there = by (first-line (list m s)) refl
+    where
+      by : (x : Option Line) → first-line (list m s) ≡ x → _≡_ {A = Answer A} (accepted (value m s) (end m s)) (accepted a t)
+      by none q = sym (ap answer (h .passes m s q)) ∙ e
+      by (some x) q = let z : _≡_ {A = Answer A} (refused (x .number) (x .position)) (accepted a t) = sym (h .stops m s x q) ∙ e in let w : _≡_ {A = ℕ} 0 1 = cc in absurd (omega arith)
+
+  pub goes-accepted : a ≡ value m s
+  goes-accepted = let z = goes-there in cc
+
+  pub goes-ended : t ≡ end m s
+  goes-ended = let z = goes-there in cc
 
 module _ {A : Type 0} where
   -- by another list with the same first line, and other words for the value and the end

@@ -73,6 +73,10 @@ pub data Item (A : Type 0) : Type 0 where
   last : A → Item A
 
 module _ {A : Type 0} where
+  abbrev pub item : Item A → A
+  item (followed a) = a
+  item (last a) = a
+
   -- behind an item: the rest of the run, or nothing more
   abbrev pub behind : (List A → Reader (List A)) → List A → Item A → Reader (List A)
   behind rest acc (followed a) = rest (acc ++ (a ∷ []))

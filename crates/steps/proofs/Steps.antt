@@ -84,6 +84,19 @@ module _ {A : Type 0} where
         by true k = refused-is-none (sym (held-fail k) ∙ h)
         by false k = (k, sym (held-pass k) ∙ h)
 
+  -- a tail lies at the start or behind it
+  pub forward : {r : Reader A} → Tidy r → (m : List ℕ) (s : ℕ) (a : A) (t : ℕ) → at r m s ≡ accepted a t → s ≤ t
+  unfolding at
+  forward {r} hr m s a t e = by (r (drop s m) s) refl e
+    where
+      by : (x : ReadResult A) → r (drop s m) s ≡ x → answer x ≡ accepted a t → s ≤ t
+      by (success b l u) q e′ =
+          let p : u ≡ t = cc in
+          let d : u ≡ s + hr .later (drop s m) s b l u q .bytes = hr .later (drop s m) s b l u q .tail in
+          omega arith
+      by (more-needed p) q e′ = refused-is-none e′
+      by (error k) q e′ = refused-is-none e′
+
   -- a tail lies within the message
   pub inside : {r : Reader A} → Tidy r → (m : List ℕ) (s : ℕ) → s ≤ length m → (a : A) (t : ℕ) → at r m s ≡ accepted a t → t ≤ length m
   unfolding at

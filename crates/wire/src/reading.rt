@@ -48,7 +48,7 @@ pub fn known_u16(m: &[u8], s: u64) -> u64
     known_u8(m, s) * 256 + known_u8(m, s + 1)
 }
 
-fn known_u32(m: &[u8], s: u64) -> u64
+pub fn known_u32(m: &[u8], s: u64) -> u64
     requires { ⌜ s + 4 ≤ length (now m) ⌝ }
     ensures { λ r. ⌜ (r ≡ number32 (now (m .entry)) s) × (r < 4294967296) ⌝ }
 {

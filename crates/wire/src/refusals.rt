@@ -60,7 +60,7 @@ pub const RESERVED_BYTES: u8 = 18;
 // The IV length is not the suite's; writing a body of version 2, it is not 0.
 pub const IV_LENGTH: u8 = 19;
 
-// Framed content with frame length 0, or non-framed content with another.
+// Framed content with frame length 0, or non-framed content with another; frames with length 0.
 pub const FRAME_LENGTH: u8 = 20;
 
 // Strict: an empty context in its old form, 00 02 00 00.
@@ -69,7 +69,7 @@ pub const OLD_EMPTY_CONTEXT: u8 = 21;
 // The pair table is too short.
 pub const PAIR_TABLE_TOO_SHORT: u8 = 22;
 
-// The key table is too short.
+// The table of keys, or of frames, is too short.
 pub const KEY_TABLE_TOO_SHORT: u8 = 23;
 
 // The message ID does not have the version's length.
@@ -101,3 +101,9 @@ pub const PAST_SECTION: u8 = 32;
 
 // A body that is marked as of the old form has a pair.
 pub const PAIR_IN_OLD_FORM: u8 = 33;
+
+// A frame's sequence number is not the next one.
+pub const SEQUENCE_NUMBER: u8 = 34;
+
+// The content of the final frame is longer than the frame length.
+pub const FINAL_CONTENT_TOO_LONG: u8 = 35;
