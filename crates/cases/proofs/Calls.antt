@@ -10,11 +10,13 @@ use Rattle.format.specs.Context.{Mode, tolerant, strict, read-aad-section, read
 use Rattle.format.specs.Keys.{at-most, read-encrypted-data-keys-section-into}
 use Rattle.format.specs.Body.{Which, either, v1-only, v2-only, read-header-body}
 use Rattle.format.specs.Auth.{read-header-auth-tag, read-header-auth-tag-of}
+use Rattle.format.specs.Frames.{read-frames-into}
 use Rattle.format.specs.OnlyAuthenticated.{write-only-authenticated}
-use Rattle.format.specs.Refusals.{section-refusals, opening-refusals, reserved-refusals, frame-refusals, closing-refusals, keys-refusals, body-refusals, auth-refusals}
+use Rattle.format.specs.Refusals.{section-refusals, opening-refusals, reserved-refusals, frame-refusals, closing-refusals, keys-refusals, body-refusals, auth-refusals, frames-refusals}
 use Rattle.cases.specs.Cases.{H, opened, laid-out}
 use Rattle.cases.specs.Headers.{bytes-from, V2}
 use Rattle.cases.specs.Tags.{selecting}
+use Rattle.cases.specs.Frames.{iv, tag, final, of-frames}
 use Rattle.cases.specs.Occurs.{listed-for}
 
 -- a refusal's number
@@ -168,3 +170,21 @@ auth-calls = (0x0178, 4294967296) ∷ (0x0178, 0) ∷ (0x0000, 0) ∷ []
 pub auth-answers : map auth-said auth-calls ≡ map some auth-refusals
 unfolding opened said read-header-auth-tag read-header-auth-tag-of auth-refusals
 auth-answers = refl
+
+-- frames with no table, by frame length, message and start
+abbrev pub frames-said : ℕ × Call → Option ℕ
+frames-said (frame, call) = said (read-frames-into frame 0) call
+
+unfoldable pub frames-calls : List (ℕ × Call)
+frames-calls =
+    (1, ([], 4294967296))
+    ∷ (1, ([], 0))
+    ∷ (0, ([], 0))
+    ∷ (1, (0x00 ∷ 0x00 ∷ 0x00 ∷ 0x00 ∷ [], 0))
+    ∷ (1, (final 1 2 [], 0))
+    ∷ (1, (final 1 0 [], 0))
+    ∷ []
+
+pub frames-answers : map frames-said frames-calls ≡ map some frames-refusals
+unfolding opened of-frames said frames-calls final iv tag bytes-from frames-refusals
+frames-answers = refl

@@ -11,12 +11,13 @@ use Rattle.format.specs.Context.{Mode, tolerant, strict, read-aad-section, read
 use Rattle.format.specs.Keys.{at-most}
 use Rattle.format.specs.Body.{Which, either, v1-only, v2-only, read-header-body}
 use Rattle.format.specs.Auth.{read-header-auth-tag}
+use Rattle.format.specs.Frames.{read-frames-into}
 use Rattle.format.specs.OnlyAuthenticated.{write-only-authenticated}
-use Rattle.format.specs.Refusals.{section-refusals, context-refusals, find-refusals, only-authenticated-refusals, opening-refusals, reserved-refusals, frame-refusals, closing-refusals, keys-refusals, body-refusals, auth-refusals}
+use Rattle.format.specs.Refusals.{section-refusals, context-refusals, find-refusals, only-authenticated-refusals, opening-refusals, reserved-refusals, frame-refusals, closing-refusals, keys-refusals, body-refusals, auth-refusals, frames-refusals}
 use Rattle.format.proofs.Members.{has-all, members}
 use Rattle.format.proofs.Messages.{refused-stays}
 use Rattle.cases.specs.Occurs.{Answers, listed-for, Occurs}
-use Rattle.cases.proofs.Calls.{number-of, Call, calls, said, sections, far-and-short, section-answers, opening-bytes, is-v1, body-calls, body-answers, old-form, strict-section, strict-body, no-table, no-pair, odd-table, no-output, key-calls, key-answers, auth-said, auth-calls, auth-answers}
+use Rattle.cases.proofs.Calls.{number-of, Call, calls, said, sections, far-and-short, section-answers, opening-bytes, is-v1, body-calls, body-answers, old-form, strict-section, strict-body, no-table, no-pair, odd-table, no-output, key-calls, key-answers, auth-said, auth-calls, auth-answers, frames-said, frames-calls, frames-answers}
 
 -- a number that is answered by a call
 answered : {A : Type 0} (r : Reader A) (c : Call) (k : ℕ) → said r c ≡ some k → Answers r k
@@ -115,4 +116,5 @@ occurs =
       of-keys = λ k h. (at-most 1, 0, each-answered _ key-calls keys-refusals key-answers k h);
       of-body = λ which mode k h. (at-most 1, 4, 0, of-body which mode k h);
       of-auth = λ k h. let (c, e) = among auth-said auth-calls auth-refusals auth-answers k h in (c .0, answered (read-header-auth-tag (c .0)) ([], c .1) k e);
+      of-frames = λ k h. let (c, e) = among frames-said frames-calls frames-refusals frames-answers k h in (c .0, 0, answered (read-frames-into (c .0) 0) (c .1) k e);
     }

@@ -15,12 +15,14 @@ use Rattle.format.specs.Context.{Mode, tolerant, strict, read-aad-section-into,
 use Rattle.format.specs.Keys.{no-max, at-most, read-encrypted-data-keys-section-into}
 use Rattle.format.specs.Body.{Which, either, v1-only, v2-only, read-header-body}
 use Rattle.format.specs.Auth.{read-header-auth-tag, read-header-auth-tag-of, write-header-auth-tag, zeros}
+use Rattle.format.specs.Frames.{read-frames-into}
 use Rattle.format.specs.OnlyAuthenticated.{write-only-authenticated}
 use Rattle.format.specs.Checks.{first, pairs-checks, keys-checks, auth-checks}
-use Rattle.format.specs.Lent.{pair-numbers, key-numbers, table-checks, Writing, refusal-of, fields-to-write, writing-aad-section, writing-encrypted-data-keys-section, writing-header-body, writing-header-auth-tag}
+use Rattle.format.specs.Lent.{pair-numbers, key-numbers, frame-numbers, table-checks, Writing, refusal-of, fields-to-write, writing-aad-section, writing-encrypted-data-keys-section, writing-header-body, writing-header-auth-tag}
 use Rattle.cases.specs.Cases.{Expected, accepts, refuses, shortage-at, is, body-numbers, H, opened, laid-out}
 use Rattle.cases.specs.Headers.{bytes-from, V2}
 use Rattle.cases.specs.Tags.{selecting}
+use Rattle.cases.specs.Frames.{iv, tag, regular, final, two, of-frames}
 
 pub data Fault : Type 0 where
   -- a context section of a mode, with a table of so many numbers
@@ -37,6 +39,8 @@ pub data Fault : Type 0 where
   strictly : List ℕ → Expected → Fault
   -- an authentication record of a suite, at a start
   auth : ℕ → List ℕ → ℕ → Expected → Fault
+  -- frames of a frame length, at a start, with a table of so many numbers
+  frames : ℕ → ℕ → List ℕ → ℕ → Expected → Fault
   -- a writer's call, into an output of no bytes
   write : Writing → ℕ → Fault
   -- pairs and keys that a writer is handed, whatever their table
@@ -58,6 +62,7 @@ answered (keys room m want) = is key-numbers (operation (read-encrypted-data-key
 answered (body which pairRoom keyRoom m s want) = is body-numbers (operation (read-header-body which tolerant no-max pairRoom keyRoom) m s) want
 answered (strictly m want) = is body-numbers (operation (read-header-body either strict no-max 0 0) m 0) want
 answered (auth suite m s want) = is no-numbers (operation (read-header-auth-tag suite) m s) want
+answered (frames frame room m s want) = is frame-numbers (operation (read-frames-into frame room) m s) want
 answered (write w k) = none-else (refusal-of w []) k
 answered (write-pairs ps k) = none-else (first (pairs-checks ps)) k
 answered (write-keys ks k) = none-else (first (keys-checks ks)) k
@@ -169,6 +174,26 @@ faults =
     ∷ auth 0x0000 [] 0 (refuses 6 0)
     ∷ auth 0x0178 [] 0 (shortage-at 12)
     ∷ auth 0x0478 [] 0 (shortage-at 16)
+    -- read frames
+    ∷ frames 0 0 [] 4294967296 (refuses 1 0)
+    ∷ frames 0 0 [] 0 (refuses 20 0)
+    ∷ frames 2 0 [] 0 (shortage-at 4)
+    ∷ frames 2 0 (0x00 ∷ 0x00 ∷ 0x00 ∷ 0x02 ∷ []) 0 (refuses 34 0)
+    ∷ frames 2 0 (0x00 ∷ 0x00 ∷ 0x00 ∷ 0x01 ∷ []) 0 (shortage-at 16)
+    ∷ frames 2 0 (take 16 two) 0 (shortage-at 18)
+    ∷ frames 2 0 (take 18 two) 0 (shortage-at 34)
+    ∷ frames 2 0 (take 34 two) 0 (shortage-at 38)
+    ∷ frames 2 0 (take 38 two) 0 (shortage-at 42)
+    ∷ frames 2 0 (take 34 two ++ (0xFF ∷ 0xFF ∷ 0xFF ∷ 0xFF ∷ 0x00 ∷ 0x00 ∷ 0x00 ∷ 0x01 ∷ [])) 0 (refuses 34 0)
+    ∷ frames 2 0 (take 42 two) 0 (shortage-at 54)
+    ∷ frames 2 0 (take 54 two) 0 (shortage-at 58)
+    ∷ frames 2 0 (take 54 two ++ (0x00 ∷ 0x00 ∷ 0x00 ∷ 0x03 ∷ [])) 0 (refuses 35 0)
+    ∷ frames 2 0 (take 54 two ++ (0x00 ∷ 0x00 ∷ 0x00 ∷ 0x02 ∷ [])) 0 (shortage-at 60)
+    ∷ frames 2 0 (final 2 3 []) 0 (refuses 34 0)
+    ∷ frames 2 0 (take 59 two) 0 (shortage-at 75)
+    ∷ frames 2 5 (final 1 3 (0x61 ∷ 0x62 ∷ 0x63 ∷ [])) 0 (refuses 35 0)
+    ∷ frames 2 11 two 0 (refuses 23 0)
+    ∷ frames 2 11 (two ++ (0xFF ∷ [])) 0 (refuses 23 0)
     -- write a body: each fault with the one that follows it in the order
     ∷ write (to-write 3 1 0 [] (0 ∷ []) [] 0 0 [] 0) 3
     ∷ write (to-write 1 0 0 [] (0 ∷ []) [] 0 0 [] 0) 5
@@ -222,5 +247,5 @@ faults =
     ∷ []
 
 pub first-fault : every answered faults ≡ true
-unfolding opened laid-out selecting faults answered is H V2 bytes-from body-numbers look-up find-value zeros read-encrypted-data-keys-section-into read-header-auth-tag-of read-header-auth-tag write-header-auth-tag auth-checks table-checks refusal-of fields-to-write writing-aad-section writing-encrypted-data-keys-section writing-header-body writing-header-auth-tag
+unfolding opened laid-out selecting of-frames iv tag regular final two faults answered is H V2 bytes-from body-numbers look-up find-value zeros read-encrypted-data-keys-section-into read-header-auth-tag-of read-header-auth-tag write-header-auth-tag auth-checks table-checks refusal-of fields-to-write writing-aad-section writing-encrypted-data-keys-section writing-header-body writing-header-auth-tag
 first-fault = refl

@@ -7,8 +7,9 @@ use Rattle.format.specs.Context.{Mode, read-aad-section-into, find-value}
 use Rattle.format.specs.Keys.{Max, no-max, read-encrypted-data-keys-section-into}
 use Rattle.format.specs.Body.{Which, request, tests-frames, read-header-body}
 use Rattle.format.specs.Auth.{read-header-auth-tag}
+use Rattle.format.specs.Frames.{read-frames-into}
 use Rattle.format.specs.OnlyAuthenticated.{write-only-authenticated}
-use Rattle.format.specs.Refusals.{context-refusals, find-refusals, only-authenticated-refusals, keys-refusals, body-refusals, auth-refusals}
+use Rattle.format.specs.Refusals.{context-refusals, find-refusals, only-authenticated-refusals, keys-refusals, body-refusals, auth-refusals, frames-refusals}
 
 -- there is a message and a start of which the reader answers the refusal
 pub record Answers {A : Type 0} (r : Reader A) (number : ℕ) : Type 0 where
@@ -30,3 +31,4 @@ pub record Occurs : Type 0 where
   pub of-body : (which : Which) (mode : Mode) (k : ℕ) → List·Memᴰ k (listed-for which mode)
       → (max : Max) × (pairRoom : ℕ) × (keyRoom : ℕ) × Answers (read-header-body which mode max pairRoom keyRoom) k
   pub of-auth : (k : ℕ) → List·Memᴰ k auth-refusals → (suite : ℕ) × Answers (read-header-auth-tag suite) k
+  pub of-frames : (k : ℕ) → List·Memᴰ k frames-refusals → (frame : ℕ) × (room : ℕ) × Answers (read-frames-into frame room) k

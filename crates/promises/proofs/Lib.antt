@@ -3,4 +3,5 @@ pub mod Writer
 pub mod WrittenBack
 pub mod Listed
 pub mod OnlyAuthenticated
+pub mod Frames
 pub mod Source

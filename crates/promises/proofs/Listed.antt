@@ -8,6 +8,7 @@ use Rattle.format.specs.Read.{Reader, Answer, accepted, refused, operation}
 use Rattle.format.specs.Serialize.{Part}
 use Rattle.format.specs.Fields.{PairAt, EncryptedDataKeyAt}
 use Rattle.format.specs.Auth.{HeaderAuth}
+use Rattle.format.specs.Frames.{FrameAt}
 use Rattle.format.specs.First.{Line, FirstApplies, FirstRefusal, operation-list}
 use Rattle.format.proofs.FirstBody.{first-refusals}
 use Rattle.wire.specs.Codes.{because}
@@ -17,6 +18,8 @@ use Rattle.context.specs.declared.ContextAnswer.the-variants as context
 use Rattle.context.specs.declared.FoundAnswer.the-variants as found
 use Rattle.keys.specs.Codes.{keys-of}
 use Rattle.keys.specs.declared.KeysAnswer.the-variants as keys
+use Rattle.frames.specs.Codes.{frames-of}
+use Rattle.frames.specs.declared.FramesAnswer.the-variants as frames
 use Rattle.auth.specs.Codes.{auth-of}
 use Rattle.auth.specs.declared.AuthRead.{AuthRead}
 use Rattle.checks.specs.declared.WriteAnswer.the-variants as write
@@ -51,6 +54,10 @@ pub back-written : (o : Answer (List ℕ)) (q : Refusal) → written-as o ≡ wr
 back-written (accepted image t) q e = let z : _≡_ {A = ℕ} 0 1 = cc in absurd (omega arith)
 back-written (refused k p) q e = let z : because k p ≡ q = cc in rw (← z) refl
 
+back-frames : (o : Answer (List FrameAt)) (q : Refusal) → frames-of o ≡ frames.Refused q → o ≡ refused (q .number) (q .position)
+back-frames (accepted fs t) q e = let z : _≡_ {A = ℕ} 0 1 = cc in absurd (omega arith)
+back-frames (refused k p) q e = let z : because k p ≡ q = cc in rw (← z) refl
+
 auth-by-first : {r : Reader HeaderAuth} {list : List ℕ → ℕ → List Line} {here : List ℕ → ℕ → HeaderAuth} {end : List ℕ → ℕ → ℕ} {m : List ℕ} {s : ℕ} → FirstRefusal r list here end m s
     → (x : AuthRead) → x ≡ auth-of (operation r m s) → AuthByFirst (operation-list list m s) (auth-of (accepted (here m s) (end m s))) x
 auth-by-first {r} {list} {here} {end} {m} {s} law x e =
@@ -72,4 +79,5 @@ listed-promises =
       of-only-authenticated = λ text required m s before after r call. by-first written-as write.Refused back-written (λ k p. refl) (first-refusals .of-only-authenticated text required (length before) m s) r (call .answer);
       of-keys = λ max room m s before after r call. by-first keys-of keys.Refused back-keys (λ k p. refl) (first-refusals .of-keys max room m s) r (call .answer);
       of-auth = λ suite m s r call. auth-by-first (first-refusals .of-auth suite m s) r call;
+      of-frames = λ frame room m s before after r call. by-first frames-of frames.Refused back-frames (λ k p. refl) (first-refusals .of-frames frame room m s) r (call .answer);
     }

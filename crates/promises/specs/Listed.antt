@@ -8,10 +8,11 @@ use Rattle.format.specs.Read.{accepted, operation}
 use Rattle.format.specs.Context.{Mode, read-aad-section-into, find-value}
 use Rattle.format.specs.Keys.{Max, read-encrypted-data-keys-section-into}
 use Rattle.format.specs.Auth.{read-header-auth-tag}
-use Rattle.format.specs.Lent.{pair-numbers, key-numbers}
+use Rattle.format.specs.Frames.{read-frames-into}
+use Rattle.format.specs.Lent.{pair-numbers, key-numbers, frame-numbers}
 use Rattle.format.specs.OnlyAuthenticated.{only-authenticated, write-only-authenticated}
-use Rattle.format.specs.Places.{entry-end, section-pairs, section-keys, section-keys-end, value-here, auth-here, auth-end}
-use Rattle.format.specs.First.{Line, NoneApplies, FirstApplies, operation-list, context-into-list, keys-into-list, find-list, only-authenticated-list, auth-list}
+use Rattle.format.specs.Places.{entry-end, section-pairs, section-keys, section-keys-end, value-here, auth-here, auth-end, frames-here, frames-end}
+use Rattle.format.specs.First.{Line, NoneApplies, FirstApplies, operation-list, context-into-list, keys-into-list, find-list, only-authenticated-list, auth-list, frames-into-list}
 use Rattle.wire.specs.Codes.{because}
 use Rattle.wire.specs.declared.Refusal.{Refusal}
 use Rattle.entries.specs.Codes.{Reads}
@@ -23,6 +24,9 @@ use Rattle.context.specs.declared.FoundAnswer.the-variants as found
 use Rattle.keys.specs.Codes.{keys-of}
 use Rattle.keys.specs.declared.KeysAnswer.{KeysAnswer}
 use Rattle.keys.specs.declared.KeysAnswer.the-variants as keys
+use Rattle.frames.specs.Codes.{frames-of}
+use Rattle.frames.specs.declared.FramesAnswer.{FramesAnswer}
+use Rattle.frames.specs.declared.FramesAnswer.the-variants as frames
 use Rattle.auth.specs.Codes.{auth-of}
 use Rattle.auth.specs.declared.AuthRead.{AuthRead}
 use Rattle.checks.specs.declared.WriteAnswer.{WriteAnswer}
@@ -50,3 +54,5 @@ pub record ListedPromises : Type 0 where
   pub of-keys : (max : Max) (room : ℕ) (m : List ℕ) (s : ℕ) (before after : List ℕ) (r : KeysAnswer)
       → Reads keys-of key-numbers (operation (read-encrypted-data-keys-section-into max room) m s) before after r → ByFirst keys.Refused (operation-list (keys-into-list max room) m s) (keys-of (accepted (section-keys m s) (section-keys-end m s))) r
   pub of-auth : (suite : ℕ) (m : List ℕ) (s : ℕ) (r : AuthRead) → r ≡ auth-of (operation (read-header-auth-tag suite) m s) → AuthByFirst (operation-list (auth-list suite) m s) (auth-of (accepted (auth-here suite m s) (auth-end suite m s))) r
+  pub of-frames : (frame room : ℕ) (m : List ℕ) (s : ℕ) (before after : List ℕ) (r : FramesAnswer)
+      → Reads frames-of frame-numbers (operation (read-frames-into frame room) m s) before after r → ByFirst frames.Refused (operation-list (frames-into-list frame room) m s) (frames-of (accepted (frames-here frame m s) (frames-end frame m s))) r
