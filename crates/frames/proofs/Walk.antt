@@ -30,6 +30,13 @@ pub walk-start : (frame : ℕ) (m : List ℕ) (first : ℕ) → first < 42949672
 unfolding read-frames
 walk-start frame m first h = record { frames = []; many = refl; few = omega arith; near = h; left = refl }
 
+-- the place behind a regular frame lies further on, within the message, whatever number was due
+pub walk-less : (frame due : ℕ) (m : List ℕ) (s : ℕ) (f : FrameRead) → f ≡ frame-read-of (at (read-frame frame due) m s) → (t : ℕ) → f ≡ read-as.Regular t → length m - t < length m - s
+walk-less frame due m s f is t b =
+    let g = regular-got (at (read-frame frame due) m s) f is t b in
+    let z = frame-further frame due m s (followed (g .item)) t (g .is) in
+    omega (arith, z .further, z .within)
+
 module _ (frame : ℕ) (m : List ℕ) (first done s : ℕ) (w : Walk frame m first done s) (f : FrameRead) (fIs : f ≡ frame-read-of (at (read-frame frame (done + 1)) m s)) where
   due : next-number (w .frames) ≡ done + 1
   due = omega (arith, w .many)
@@ -40,10 +47,6 @@ module _ (frame : ℕ) (m : List ℕ) (first done s : ℕ) (w : Walk frame m fir
   module _ (t : ℕ) (b : f ≡ read-as.Regular t) where
     got : Regular (at (read-frame frame (done + 1)) m s) t
     got = regular-got (at (read-frame frame (done + 1)) m s) f fIs t b
-
-    -- the place behind the frame lies further on, within the message
-    pub walk-less : length m - t < length m - s
-    walk-less = let z = frame-further frame (done + 1) m s (followed (got .item)) t (got .is) in omega (arith, z .further, z .within)
 
     pub walk-more : length m < 4294967296 → Walk frame m first (done + 1) t
     walk-more h =
