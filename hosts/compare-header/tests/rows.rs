@@ -80,7 +80,7 @@ fn only_authenticated_pairs() {
 #[test]
 fn messages_of_four_gibibytes() {
     let rows = sizes::messages_of_four_gibibytes(&Both);
-    held(rows, 5 * 8 + 5 + 6, "rows of messages of 4 GiB");
+    held(rows, 5 * 9 + 5 + 6, "rows of messages of 4 GiB");
 }
 
 #[test]
