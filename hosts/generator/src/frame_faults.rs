@@ -21,8 +21,9 @@ pub enum Kind {
     NoFinal,
     /// A final content that is said to be longer than the frame length.
     TooLong,
-    /// One that is said to be longer than it is, up to the frame length.
-    Longer,
+    /// One that is said to be shorter or longer than it is, up to the frame
+    /// length.
+    OtherFinal,
     /// A frame that is far longer than what is there of it.
     Large,
     /// A frame length that isn't that of the frames.
@@ -45,7 +46,7 @@ pub const KINDS: [Kind; 18] = [
     Kind::Unmarked,
     Kind::NoFinal,
     Kind::TooLong,
-    Kind::Longer,
+    Kind::OtherFinal,
     Kind::Large,
     Kind::OtherLength,
     Kind::Zero,
@@ -179,12 +180,11 @@ fn too_long(random: &mut Random) -> Built {
     built
 }
 
-/// Its tag, or what stands behind it, is read as content.
-fn longer(random: &mut Random) -> Built {
+/// Content is read as its tag, or the tag and what stands behind as content.
+fn other_final(random: &mut Random) -> Built {
     let (mut frames, frame_length) = with_regular(random, 0);
     let at = frames.len() - 1;
-    let there = frames[at].content.len() as u64;
-    let stored = random.between(there, u64::from(frame_length)) as u32;
+    let stored = random.between(0, u64::from(frame_length)) as u32;
     frames[at].last = Some(stored);
     Built::new(frames, frame_length).open()
 }
@@ -241,7 +241,7 @@ pub fn build(random: &mut Random, kind: Kind) -> Built {
         Kind::Unmarked => unmarked(random),
         Kind::NoFinal => no_final(random),
         Kind::TooLong => too_long(random),
-        Kind::Longer => longer(random),
+        Kind::OtherFinal => other_final(random),
         Kind::Large => large(random),
         Kind::OtherLength => other_length(random),
         Kind::Zero => Built {
