@@ -1,7 +1,7 @@
 /*
- * Message headers of the AWS Encryption SDK: reads, writes and lists header bodies, and reads and writes their two sections and
- * authentication records. For hosts in C99 and C++11 and later. Nothing is verified, signed or decrypted: that a header is
- * accepted says how it is built, and not whose it is.
+ * Message headers of the AWS Encryption SDK: reads, writes and lists header bodies, reads and writes their two sections and
+ * authentication records, and reads the frames behind them. For hosts in C99 and C++11 and later. Nothing is verified, signed or
+ * decrypted: that a header or a frame is accepted says how it is built, and not whose it is.
  *
  * Link libbafirolen_c.a: code for x86-64 and the System V calling convention (Linux). It calls memcpy and memset, and nothing
  * else. In the repository `rt staticlib bafirolen_c` writes it into target/staticlib, and hosts/c has examples.
@@ -27,11 +27,11 @@
  * input is allowed: each call on parts lent as above returns, with exactly one answer.
  *
  * The comment of each function lists the refusals that it can answer ("Refuses"), in the order of its tests: of two that apply
- * the first is answered. 10, 11, 12 and, in reading, 32 are tested of one pair after the other, and 16 of one key after the
- * other, so that the first pair or key with a fault decides. 2 is answered where the next field is not all there. Fields are read
- * one by one, but the context section is awaited whole, once its length is read, before any of its pairs is tested. In it the
- * count, and the length and bytes of each key and value, are refused by 32 where they would end past the section, before they are
- * read.
+ * the first is answered. 10, 11, 12 and, in reading, 32 are tested of one pair after the other, 16 of one key after the other,
+ * and 34 and 35 of one frame after the other, so that the first pair, key or frame with a fault decides. 2 is answered where the
+ * next field is not all there. Fields are read one by one, but the context section is awaited whole, once its length is read,
+ * before any of its pairs is tested. In it the count, and the length and bytes of each key and value, are refused by 32 where they
+ * would end past the section, before they are read.
  *
  * WHAT TO DO WITH A REFUSAL.
  * BAFIROLEN_REFUSED_SHORTAGE: fetch more, until the message has at least `position` bytes, and call again; with fewer the answer
@@ -40,9 +40,9 @@
  * limit: lengths in a message may claim what never comes. No part of a context is waited for past its section: where it claims to
  * end there, the message is damaged, and is refused by 32 as soon as the section is there.
  * BAFIROLEN_REFUSED_PAIR_TABLE_TOO_SHORT, .._KEY_TABLE_TOO_SHORT, .._OUTPUT_TOO_SHORT: lend more, and call again. The answer does
- * not say how much: lend twice as much, or a table of BAFIROLEN_LARGEST_PAIR_TABLE or BAFIROLEN_LARGEST_KEY_TABLE numbers; the
- * writers' comments say how long an output has to be. The two calls and the listing have tables of their own; where these are too
- * short, call bafirolen_read_header_body.
+ * not say how much: lend twice as much, or a table of BAFIROLEN_LARGEST_PAIR_TABLE or BAFIROLEN_LARGEST_KEY_TABLE numbers, or of
+ * as many as bafirolen_frame_table_len gives for frames; the writers' comments say how long an output has to be. The two calls and
+ * the listing have tables of their own; where these are too short, call bafirolen_read_header_body.
  * Every other: neither more bytes nor more room change it. From a reader: reject the message (4, 15 and 21 depend on what you
  * asked for). From a writer: correct the fields, or with 31 the required table; bafirolen_write_only_authenticated is a writer
  * with 31 and 28, and a reader with all others. BAFIROLEN_REFUSED_NOT_FOUND: the context is good and lacks this key.
@@ -69,7 +69,7 @@ extern "C" {
  * The version of these declarations, which grows by one with each change of them. bafirolen_version gives that of the archive:
  * where the two differ, the archive was made for another header file than this.
  */
-#define BAFIROLEN_VERSION 4
+#define BAFIROLEN_VERSION 5
 uint32_t bafirolen_version(void);
 
 /*
@@ -79,7 +79,7 @@ uint32_t bafirolen_version(void);
  * BAFIROLEN_STACK_KEYS.
  */
 #define BAFIROLEN_STACK_READ 40960               /* read a context section or a body; find and copy a value */
-#define BAFIROLEN_STACK_KEYS 1024                /* read and write a key section or an authentication record */
+#define BAFIROLEN_STACK_KEYS 1024                /* read and write a key section or an authentication record; read frames */
 #define BAFIROLEN_STACK_ONLY_AUTHENTICATED 57344 /* write the pairs of required keys, whose order lies on the stack */
 #define BAFIROLEN_STACK_LISTED 73728             /* the number, the position, the listing: their tables lie on the stack */
 #define BAFIROLEN_STACK_WRITE 143360             /* write a context section or a body */
@@ -160,6 +160,21 @@ BafirolenWritten bafirolen_copy_value(const uint8_t *message, size_t message_len
  * Stack: BAFIROLEN_STACK_KEYS.
  */
 BafirolenAuth bafirolen_read_header_auth_tag(const uint8_t *message, size_t message_len, uint64_t start, uint32_t suite);
+
+/*
+ * Reads the frames at `start`, the final one included: where the content is framed (numbers.contentType), they stand right after
+ * the authentication record (its tail), and numbers.frameLength is their length. No content is decrypted, and no tag is verified.
+ * A regular frame has a sequence number of 4 bytes, an IV of 12, content of exactly frame_length bytes and a tag of 16. The final
+ * frame has FF FF FF FF, its sequence number, an IV, a length of 4 bytes, content of that length and a tag; its content may be
+ * empty, and has at most frame_length bytes. The numbers run from 1 by one, the final frame's included.
+ * table: accepted, it begins with six numbers for each frame, in their order; `count` says how many frames there are. The numbers
+ * after those are left as they were.
+ * Refuses: 1 20 2 34 35 23.
+ * 20 where frame_length is 0; 34 as soon as a sequence number is read, and 35 as soon as the length of the final content is.
+ * Stack: BAFIROLEN_STACK_KEYS.
+ */
+BafirolenSection bafirolen_read_frames(const uint8_t *message, size_t message_len, uint64_t start, uint32_t frame_length,
+                                       uint32_t *table, size_t table_len);
 
 /*
  * WRITING. A writer changes `out`, and nothing else, and that only where it accepts: the bytes from the first on, `length` of

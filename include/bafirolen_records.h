@@ -5,11 +5,21 @@
 #include <stddef.h>
 #include <stdint.h>
 
-/* TABLES. How many numbers stand for a pair and for a key, and how many hold whatever a header can have. */
-#define BAFIROLEN_NUMBERS_PER_PAIR 4 /* key start, key length, value start, value length */
-#define BAFIROLEN_NUMBERS_PER_KEY 6  /* start and length of provider ID, of provider info and of ciphertext */
+/* TABLES. How many numbers stand for a pair, for a key and for a frame, and how many hold whatever a header can have. */
+#define BAFIROLEN_NUMBERS_PER_PAIR 4  /* key start, key length, value start, value length */
+#define BAFIROLEN_NUMBERS_PER_KEY 6   /* start and length of provider ID, of provider info and of ciphertext */
+#define BAFIROLEN_NUMBERS_PER_FRAME 6 /* start and length of IV, of content and of tag */
 #define BAFIROLEN_LARGEST_PAIR_TABLE (BAFIROLEN_NUMBERS_PER_PAIR * 16383) /* pairs of 4 bytes or more in fewer than 65,534 */
 #define BAFIROLEN_LARGEST_KEY_TABLE (BAFIROLEN_NUMBERS_PER_KEY * 65535)   /* a count of 16 bits; the table takes 1.5 MiB */
+
+/*
+ * How many numbers hold whatever frames can stand in so many bytes: those of the message from their start on, or all of them. A
+ * regular frame takes 32 bytes and its content, the final one at least 40. No two arguments overflow it.
+ */
+static inline uint64_t bafirolen_frame_table_len(uint64_t bytes, uint32_t frame_length)
+{
+    return BAFIROLEN_NUMBERS_PER_FRAME * (1 + bytes / (32 + (uint64_t)frame_length));
+}
 
 /* Numbers and lengths of the format. */
 #define BAFIROLEN_V1_MESSAGE_TYPE 0x80 /* version 2 stores none: messageType is 0 */
@@ -37,11 +47,11 @@ enum BafirolenMax { BAFIROLEN_NO_MAX = 0, BAFIROLEN_AT_MOST = 1 };
  */
 enum BafirolenForm { BAFIROLEN_TODAY = 0, BAFIROLEN_OLD = 1 };
 
-/* A section that was read. 32 bytes. */
+/* A section that was read, or frames. 32 bytes. */
 typedef struct BafirolenSection {
     uint64_t number;
     uint64_t position;
-    uint64_t count; /* how many pairs or keys */
+    uint64_t count; /* how many pairs, keys or frames */
     uint64_t tail;
 } BafirolenSection;
 

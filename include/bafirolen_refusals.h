@@ -29,10 +29,10 @@ enum BafirolenRefusal {
     BAFIROLEN_REFUSED_CONTENT_TYPE = 17,
     BAFIROLEN_REFUSED_RESERVED_BYTES = 18,
     BAFIROLEN_REFUSED_IV_LENGTH = 19,
-    BAFIROLEN_REFUSED_FRAME_LENGTH = 20,      /* framed content with frame length 0, or non-framed content with another */
+    BAFIROLEN_REFUSED_FRAME_LENGTH = 20,      /* framed content or frames with 0, or non-framed content with another */
     BAFIROLEN_REFUSED_OLD_EMPTY_CONTEXT = 21, /* strict: 00 02 00 00 */
     BAFIROLEN_REFUSED_PAIR_TABLE_TOO_SHORT = 22,
-    BAFIROLEN_REFUSED_KEY_TABLE_TOO_SHORT = 23,
+    BAFIROLEN_REFUSED_KEY_TABLE_TOO_SHORT = 23, /* or the table of frames */
     BAFIROLEN_REFUSED_ID_LENGTH = 24,         /* 16 bytes in version 1, 32 in version 2 */
     BAFIROLEN_REFUSED_SUITE_DATA_LENGTH = 25, /* 0 bytes in version 1, 32 in version 2 */
     BAFIROLEN_REFUSED_TABLE_OR_PLACE = 26,
@@ -42,7 +42,9 @@ enum BafirolenRefusal {
     BAFIROLEN_REFUSED_TAG_LENGTH = 30,
     BAFIROLEN_REFUSED_REQUIRED_TABLE_OR_PLACE = 31,
     BAFIROLEN_REFUSED_PAST_SECTION = 32, /* a count, or the length or the bytes of a key or value */
-    BAFIROLEN_REFUSED_PAIR_IN_OLD_FORM = 33 /* in writing alone */
+    BAFIROLEN_REFUSED_PAIR_IN_OLD_FORM = 33, /* in writing alone */
+    BAFIROLEN_REFUSED_SEQUENCE_NUMBER = 34,  /* they run from 1 by one, the final frame's included */
+    BAFIROLEN_REFUSED_FINAL_CONTENT_TOO_LONG = 35
 };
 
 /* A refusal in words. Any other number has the words for unknown ones. */
@@ -69,10 +71,10 @@ static inline const char *bafirolen_refusal_text(uint64_t number)
         "content type not 01 or 02",
         "reserved bytes not 0",
         "IV length not the suite's (writing a body of version 2: not 0)",
-        "frame length against content type",
+        "frame length against content type, or frames with length 0",
         "the old form of an empty context",
         "pair table too short",
-        "key table too short",
+        "key or frame table too short",
         "message ID of another length",
         "suite data of another length",
         "table not in fours or sixes, or a place outside the text",
@@ -83,6 +85,8 @@ static inline const char *bafirolen_refusal_text(uint64_t number)
         "required table of odd length, or a place outside its text",
         "part of a context section that would end past the section",
         "a pair in a body marked as of the old form",
+        "sequence number of a frame not the next one",
+        "content of the final frame longer than the frame length",
     };
     return number < sizeof texts / sizeof *texts ? texts[number] : "unknown refusal";
 }

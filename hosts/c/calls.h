@@ -1,20 +1,21 @@
-/* Every export as a function without parameters, on the body that was built. */
+/* Every export as a function without parameters, on the body and the frames that were built. */
 #ifndef CALLS_H
 #define CALLS_H
 
 #include "bodies.h"
 #include "compare.h"
+#include "frames.h"
 
 /* what a call is lent to change, and what it answers */
 struct lent {
-    uint32_t pairs[4 * MOST_PAIRS], keys[6 * MOST_KEYS];
+    uint32_t pairs[4 * MOST_PAIRS], keys[6 * MOST_KEYS], frames[6 * MOST_FRAMES];
     uint8_t out[2 * sizeof body.bytes + 28];
     union answered answer;
 };
 
 static struct lent *lent;
 static struct shape shape;
-static size_t pairs_len, keys_len, out_len;
+static size_t pairs_len, keys_len, frames_len, out_len;
 static const uint8_t *find_key;
 
 static void version(void)
@@ -55,6 +56,11 @@ static void read_keys(void)
 {
     lent->answer.section = bafirolen_read_encrypted_data_keys_section(body.bytes, body.length, body.keys, BAFIROLEN_AT_MOST,
                                                                       UINT64_MAX, lent->keys, keys_len);
+}
+
+static void read_frames(void)
+{
+    lent->answer.section = bafirolen_read_frames(frames.bytes, frames.length, 0, frames.frame_length, lent->frames, frames_len);
 }
 
 static void find(void)

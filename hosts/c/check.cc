@@ -1,7 +1,8 @@
 /*
  * A host in C++: bafirolen.h is included twice, what is empty is lent as an empty vector has it; header H is read, its pairs and
  * keys are gone through, it is written again, as is one with an empty context in the old form, and what is authenticated of its
- * context is written alone. Writes `compared N cases`; a difference is written to standard error, and the exit status is 1.
+ * context is written alone; frames are read and gone through. Writes `compared N cases`; a difference is written to standard
+ * error, and the exit status is 1.
  *
  *     rt staticlib bafirolen_c
  *     g++ -std=c++11 -O2 -Wall -Wextra -Wpedantic -Iinclude hosts/c/check.cc target/staticlib/libbafirolen_c.a -o target/check
@@ -132,17 +133,55 @@ void only_authenticated()
     same("its bytes", out, Bytes(H.begin() + 22, H.begin() + 34));
 }
 
+void put(Bytes &message, uint32_t number)
+{
+    for (int shift = 24; shift >= 0; shift -= 8) {
+        message.push_back(uint8_t(number >> shift));
+    }
+}
+
+/* three frames of 4 bytes behind the record of H, the final one empty; the table is as long as any of these bytes could need */
+void frames()
+{
+    Bytes message = H;
+    message.resize(H.size() + 28);
+    for (uint32_t number = 1; number <= 3; number++) {
+        if (number == 3) {
+            put(message, 0xFFFFFFFFu);
+        }
+        put(message, number);
+        message.insert(message.end(), BAFIROLEN_IV_LEN, uint8_t(0xA0 + number));
+        put(message, number == 3 ? 0 : 0x61626300 + number);
+        message.insert(message.end(), BAFIROLEN_TAG_LEN, uint8_t(0xB0 + number));
+    }
+    Table table(bafirolen_frame_table_len(message.size() - 86, 4));
+    same("the table's length", table.size(), 6u * 4);
+    const BafirolenSection s = bafirolen_read_frames(message.data(), message.size(), 86, 4, table.data(), table.size());
+    same("frames", s.number == 0 && s.position == 0 && s.count == 3, true);
+    same("the frames' tail", s.tail, message.size());
+    std::vector<std::string> contents;
+    for (size_t i = 0; i < s.count; i++) {
+        contents.push_back(part(message, &table[BAFIROLEN_NUMBERS_PER_FRAME * i + 2]));
+        same("an IV", part(message, &table[BAFIROLEN_NUMBERS_PER_FRAME * i]), std::string(12, char(0xA1 + i)));
+        same("a tag", part(message, &table[BAFIROLEN_NUMBERS_PER_FRAME * i + 4]), std::string(16, char(0xB1 + i)));
+    }
+    same("the contents", contents, std::vector<std::string>{"abc\1", "abc\2", ""});
+    const BafirolenSection none = bafirolen_read_frames(nullptr, 0, 0, 0, nullptr, 0);
+    same("no frame length", none.number == BAFIROLEN_REFUSED_FRAME_LENGTH && none.position == 0 && none.tail == 0, true);
+}
+
 } // namespace
 
 int main()
 {
     same("the version of the declarations", bafirolen_version(), uint32_t(BAFIROLEN_VERSION));
     same("the text of a refusal", std::string(bafirolen_refusal_text(BAFIROLEN_REFUSED_NOT_FOUND)), "no pair has the key");
-    same("the text of no refusal", std::string(bafirolen_refusal_text(34)), "unknown refusal");
+    same("the text of no refusal", std::string(bafirolen_refusal_text(36)), "unknown refusal");
     read_and_write_again();
     old_form_again();
     only_authenticated();
     empty_vectors();
+    frames();
     std::cout << "compared " << cases << " cases\n" << std::flush;
     return differences == 0 && std::cout ? 0 : 1;
 }

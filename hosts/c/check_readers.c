@@ -1,7 +1,8 @@
 /*
- * A host in C: calls every exported operation that reads but one, and compares each number that it answers, and each byte and
+ * A host in C: calls every exported operation that reads but two, and compares each number that it answers, and each byte and
  * table entry that it was lent, with what documents 01 and 02 say. Writes `compared N cases`; a difference is written to standard
- * error, and the exit status is 1. check_writers.c does the same for what writes, and for reading authentication records.
+ * error, and the exit status is 1. check_writers.c does the same for what writes, and for reading authentication records, and
+ * check_frames.c for reading frames.
  *
  *     rt staticlib bafirolen_c
  *     gcc -std=c99 -O2 -Wall -Wextra -Iinclude hosts/c/check_readers.c target/staticlib/libbafirolen_c.a -o target/check_readers
@@ -83,14 +84,6 @@ static void numbers_and_positions(void)
     same("position at 70", bafirolen_header_position(H, 58, 70), 71);
     same("number of a long start", bafirolen_header_number(H, 58, UINT64_MAX), BAFIROLEN_REFUSED_NOT_ADDRESSABLE);
     same("position of a long start", bafirolen_header_position(H, 58, UINT64_MAX), 0);
-}
-
-static void section_is(const char *what, BafirolenSection s, uint64_t number, uint64_t position, uint64_t count, uint64_t tail)
-{
-    same(what, s.number, number);
-    same(what, s.position, position);
-    same(what, s.count, count);
-    same(what, s.tail, tail);
 }
 
 static void sections(void)

@@ -1,4 +1,4 @@
-/* Comparing what an operation answers, and what it was lent, with what is wanted; and header H. */
+/* Comparing what an operation answers, and what it was lent, with what is wanted; header H; and two frames. */
 #ifndef COMPARE_H
 #define COMPARE_H
 
@@ -62,6 +62,15 @@ static const uint32_t H_keys[6] = {38, 2, 42, 1, 45, 3};
 static const char H_listing[] = "header\t1\t80\t0178\t02\t4096\t58\nid\t000102030405060708090a0b0c0d0e0f\n"
                                 "pair\t6c616e67\t6379\nkey\t7031\t61\taabbcc\n";
 
+/* two frames of 3 bytes, the final one of 2: number, IV, content, tag; mark, number, IV, length, content, tag */
+static const uint8_t RUN[77] = {
+    0x00, 0x00, 0x00, 0x01, 0xA0, 0xA1, 0xA2, 0xA3, 0xA4, 0xA5, 0xA6, 0xA7, 0xA8, 0xA9, 0xAA, 0xAB, 0x61, 0x62, 0x63,
+    0xB0, 0xB1, 0xB2, 0xB3, 0xB4, 0xB5, 0xB6, 0xB7, 0xB8, 0xB9, 0xBA, 0xBB, 0xBC, 0xBD, 0xBE, 0xBF,
+    0xFF, 0xFF, 0xFF, 0xFF, 0x00, 0x00, 0x00, 0x02, 0xC0, 0xC1, 0xC2, 0xC3, 0xC4, 0xC5, 0xC6, 0xC7, 0xC8, 0xC9, 0xCA, 0xCB,
+    0x00, 0x00, 0x00, 0x02, 0x64, 0x65,
+    0xD0, 0xD1, 0xD2, 0xD3, 0xD4, 0xD5, 0xD6, 0xD7, 0xD8, 0xD9, 0xDA, 0xDB, 0xDC, 0xDD, 0xDE, 0xDF};
+static const uint32_t RUN_table[12] = {4, 12, 16, 3, 19, 16, 43, 12, 59, 2, 61, 16};
+
 /* what is lent to be changed, filled anew before each call */
 static uint32_t pairs[NUMBERS], keys[NUMBERS], fresh_numbers[NUMBERS];
 static uint8_t out[BYTES], fresh_bytes[BYTES];
@@ -103,6 +112,15 @@ static inline void written_at(const char *what, BafirolenWritten w, uint64_t num
 static inline void written_is(const char *what, BafirolenWritten w, uint64_t number, uint64_t length)
 {
     written_at(what, w, number, 0, length);
+}
+
+static inline void section_is(const char *what, BafirolenSection s, uint64_t number, uint64_t position, uint64_t count,
+                              uint64_t tail)
+{
+    same(what, s.number, number);
+    same(what, s.position, position);
+    same(what, s.count, count);
+    same(what, s.tail, tail);
 }
 
 #define BODY_FIELDS 16

@@ -124,6 +124,20 @@ static void read_parts(const uint8_t *m, size_t n, uint64_t start, size_t np, si
     let_go();
 }
 
+/* frames of a length at a start, by exact buffers: message of n bytes, table of so many numbers */
+static void read_frames(const uint8_t *m, size_t n, uint64_t start, uint32_t frame_length, size_t numbers)
+{
+    BafirolenSection exact, roomy;
+    uint32_t *t;
+    fresh();
+    t = lend(keys, numbers * sizeof *t);
+    exact = bafirolen_read_frames(lend_const(m, n), n, start, frame_length, t, numbers);
+    roomy = bafirolen_read_frames(m, n, start, frame_length, keys, numbers);
+    same_bytes("frames", &exact, &roomy, sizeof exact);
+    same_bytes("their table", t, keys, numbers * sizeof *t);
+    let_go();
+}
+
 /* what is authenticated of the context section at a start, for the keys "ab" and "a", into exactly its length */
 static void authenticate(const uint8_t *m, size_t n, uint64_t start)
 {
@@ -154,6 +168,21 @@ static void read_cuts(const uint8_t *m, size_t n, size_t np, size_t nk)
         for (start = 0; start <= cut + 1; start++) {
             read_parts(m, cut, start, 4 * np, 6 * nk);
             authenticate(m, cut, start);
+        }
+    }
+}
+
+/* every cut of two frames, by lengths about theirs, with a table that just holds them and one that just doesn't */
+static void read_frame_cuts(void)
+{
+    static const uint32_t lengths[] = {0, 1, 2, 3, 4, 20, UINT32_MAX};
+    size_t start, cut, i;
+    for (cut = 0; cut <= sizeof RUN; cut++) {
+        for (i = 0; i < COUNT(lengths); i++) {
+            for (start = 0; start <= cut + 1; start++) {
+                read_frames(RUN, cut, start, lengths[i], 12);
+            }
+            read_frames(RUN, cut, 0, lengths[i], 11);
         }
     }
 }
@@ -265,5 +294,6 @@ int main(void)
     write_again(old, length);
     write_again(old, in_old_form(V2, sizeof V2, 35, old));
     write_parts();
+    read_frame_cuts();
     return compared();
 }

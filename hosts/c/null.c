@@ -1,8 +1,8 @@
 /*
  * Null pointers with length 0: every export with each set of its lent parts left empty, once by null and once by a pointer behind
  * an allocation, where a memory checker sees a read or a store. What is answered, and every table and output, is the same; and
- * some of it is compared with what document 01 says. Writes `compared N cases`; a difference is written to standard error, and
- * the exit status is 1.
+ * some of it is compared with what documents 01 and 02 say. Writes `compared N cases`; a difference is written to standard error,
+ * and the exit status is 1.
  *
  *     rt staticlib bafirolen_c
  *     gcc -std=c99 -O2 -Wall -Wextra -Iinclude hosts/c/null.c target/staticlib/libbafirolen_c.a -o target/null
@@ -88,6 +88,11 @@ static void read_record(void)
     clear_behind_tag(&answer.record.auth);
 }
 
+static void read_frames(void)
+{
+    answer.record.section = bafirolen_read_frames(LENT(0, RUN, sizeof RUN), 0, 3, LENT(1, keys, NUMBERS));
+}
+
 static void find(void)
 {
     answer.record.place = bafirolen_find_value(MESSAGE, h->context, LENT(1, h->key, strlen(h->key)));
@@ -142,6 +147,7 @@ static const struct export {
                {"bafirolen_read_aad_section", read_context, 2},
                {"bafirolen_read_encrypted_data_keys_section", read_keys, 2},
                {"bafirolen_read_header_auth_tag", read_record, 1},
+               {"bafirolen_read_frames", read_frames, 2},
                {"bafirolen_find_value", find, 2},
                {"bafirolen_copy_value", copy, 3},
                {"bafirolen_write_aad_section", write_context, 3},
@@ -194,11 +200,13 @@ static void readers(void)
     body_is("no pair table", bafirolen_read_header_body(H, 58, 0, 0, 0, 0, 0, NULL, 0, keys, 6), few_pairs);
     body_is("no key table", bafirolen_read_header_body(H, 58, 0, 0, 0, 0, 0, pairs, 4, NULL, 0), few_keys);
     s = bafirolen_read_aad_section(BARE, 34, 20, BAFIROLEN_STRICT, NULL, 0);
-    same("no pair table, no pair", s.number == 0 && s.position == 0 && s.count == 0, 1);
-    same("no pair table, no pair", s.tail, 22);
+    section_is("no pair table, no pair", s, 0, 0, 0, 22);
     s = bafirolen_read_encrypted_data_keys_section(BARE, 34, 22, BAFIROLEN_NO_MAX, 0, NULL, 0);
-    same("no key table, no key", s.number == 0 && s.position == 0 && s.count == 0, 1);
-    same("no key table, no key", s.tail, 24);
+    section_is("no key table, no key", s, 0, 0, 0, 24);
+    s = bafirolen_read_frames(NULL, 0, 0, 3, NULL, 0);
+    section_is("frames of no message", s, BAFIROLEN_REFUSED_SHORTAGE, 4, 0, 0);
+    s = bafirolen_read_frames(RUN, sizeof RUN, 0, 3, NULL, 0);
+    section_is("frames, no table", s, BAFIROLEN_REFUSED_KEY_TABLE_TOO_SHORT, 0, 0, 0);
     p = bafirolen_find_value(HOLLOW, 88, 35, NULL, 0);
     same("the empty key", p.number == 0 && p.position == 0 && p.len == 0, 1);
     same("the empty key", p.start, 43);

@@ -40,6 +40,7 @@ static struct export {
                {"bafirolen_write_encrypted_data_keys_section", write_keys, BAFIROLEN_STACK_KEYS, 0},
                {"bafirolen_read_header_auth_tag", read_record, BAFIROLEN_STACK_KEYS, 0},
                {"bafirolen_write_header_auth_tag", write_record, BAFIROLEN_STACK_KEYS, 0},
+               {"bafirolen_read_frames", read_frames, BAFIROLEN_STACK_KEYS, 0},
                {"bafirolen_write_only_authenticated", write_only_authenticated, BAFIROLEN_STACK_ONLY_AUTHENTICATED, 0},
                {"bafirolen_header_number", number, BAFIROLEN_STACK_LISTED, 0},
                {"bafirolen_header_position", position, BAFIROLEN_STACK_LISTED, 0},
@@ -106,6 +107,7 @@ static struct lent *lend(struct lent *l)
 {
     memset(l->pairs, KEPT, sizeof *l->pairs * pairs_len);
     memset(l->keys, KEPT, sizeof *l->keys * keys_len);
+    memset(l->frames, KEPT, sizeof *l->frames * frames_len);
     memset(l->out, KEPT, out_len);
     memset(&l->answer, 0, sizeof l->answer);
     return l;
@@ -137,18 +139,21 @@ static void run(struct export *e)
     same_bytes(e->name, &at_the_end.answer, &further_up.answer, sizeof at_the_end.answer);
     same_bytes(e->name, at_the_end.pairs, further_up.pairs, sizeof *at_the_end.pairs * pairs_len);
     same_bytes(e->name, at_the_end.keys, further_up.keys, sizeof *at_the_end.keys * keys_len);
+    same_bytes(e->name, at_the_end.frames, further_up.frames, sizeof *at_the_end.frames * frames_len);
     same_bytes(e->name, at_the_end.out, further_up.out, out_len);
     accepted(e);
 }
 
-/* every export on a body, with a key to find that it has and one that it has not */
+/* every export on a body, with a key to find that it has and one that it has not, and on as many frames as it has parts */
 static void run_all(struct shape s)
 {
     size_t i;
     shape = s;
     build(s);
+    build_frames(1 + s.pairs + s.keys, 1 + s.pairs % 5, s.fault);
     pairs_len = 4 * s.pairs;
     keys_len = 6 * s.keys;
+    frames_len = 6 * (1 + s.pairs + s.keys);
     out_len = 2 * body.length + 28;
     for (i = 0; i < COUNT(exports); i++) {
         find_key = body.bytes + body.last_key;

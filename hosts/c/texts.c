@@ -9,7 +9,7 @@
 
 #include <stdlib.h>
 
-#define REFUSALS 33
+#define REFUSALS 35
 
 static void text_is(uint64_t number, const char *want)
 {

@@ -8,6 +8,10 @@ pub const NUMBERS_PER_PAIR: usize = 4;
 /// provider ID, of the provider info and of the ciphertext.
 pub const NUMBERS_PER_KEY: usize = 6;
 
+/// How many numbers of a table of frames one frame takes: start and length of
+/// the IV, of the content and of the tag.
+pub const NUMBERS_PER_FRAME: usize = 6;
+
 /// A pair table of this length is never too short: a pair takes at least four
 /// bytes, and all pairs together fewer than 65,534.
 pub const LARGEST_PAIR_TABLE: usize = NUMBERS_PER_PAIR * 16_383;
@@ -16,12 +20,29 @@ pub const LARGEST_PAIR_TABLE: usize = NUMBERS_PER_PAIR * 16_383;
 /// bits.
 pub const LARGEST_KEY_TABLE: usize = NUMBERS_PER_KEY * 65_535;
 
+/// A table of this length holds whatever frames can stand in so many bytes:
+/// those of the message from their start on, or all of them. A regular frame
+/// takes 32 bytes and its content, the final one at least 40. No two arguments
+/// overflow it.
+///
+/// ```
+/// use bafirolen::frame_table_len;
+///
+/// assert_eq!(frame_table_len(1_000, 64), 6 * 11); // ten frames take 960
+/// ```
+#[inline]
+#[must_use]
+pub const fn frame_table_len(bytes: usize, frame_length: u32) -> usize {
+    NUMBERS_PER_FRAME * (1 + bytes / (32 + frame_length as usize))
+}
+
 /// Bytes of stack that a call to read a context or a body, or to find or copy a
 /// value, may take. This figure and the four below were measured on the
 /// archive and rounded up, and a test holds it to them; nothing proves them.
 pub const STACK_READ: usize = 40_960;
 
-/// Bytes of stack for key sections and authentication records, read or written.
+/// Bytes of stack for key sections and authentication records, read or written,
+/// and to read frames.
 pub const STACK_KEYS: usize = 1_024;
 
 /// Bytes of stack for

@@ -1,7 +1,7 @@
-//! A codec of AWS Encryption SDK message headers: a safe wrapper of proved
-//! operations, which lie in the archive that `bafirolen-sys` links. Nothing is
-//! verified, signed or decrypted: that a header is accepted says how it is
-//! built, and not whose it is.
+//! A codec of AWS Encryption SDK message headers, and a reader of the frames
+//! behind them: a safe wrapper of proved operations, which lie in the archive
+//! that `bafirolen-sys` links. Nothing is verified, signed or decrypted: that a
+//! header or a frame is accepted says how it is built, and not whose it is.
 //!
 //! A header has an encryption context, pairs of key and value, and encrypted
 //! data keys. Both keep their order: no order is tested, and nothing is sorted,
@@ -12,15 +12,16 @@
 //! No function allocates, and none keeps anything. A reader takes a message
 //! and the place where it starts, and fills lent tables of numbers with the
 //! places of what it read: [`NUMBERS_PER_PAIR`] numbers for each pair of the
-//! encryption context, [`NUMBERS_PER_KEY`] for each encrypted data key. Its
-//! answer borrows both, and gives the pairs and keys as parts of the message.
+//! encryption context, [`NUMBERS_PER_KEY`] for each encrypted data key,
+//! [`NUMBERS_PER_FRAME`] for each frame. Its answer borrows both, and gives the
+//! pairs, keys and frames as parts of the message.
 //! A writer takes such tables with places in a lent text, and fills a lent
 //! output from its first byte. What is lent keeps its entries beyond those
 //! filled, and on a refusal all of them.
 //!
 //! Tables of [`LARGEST_PAIR_TABLE`] and [`LARGEST_KEY_TABLE`] numbers (256 KiB
-//! and 1.5 MiB) are never too short; a caller that knows its headers lends
-//! shorter ones.
+//! and 1.5 MiB), and of [`frame_table_len`] for frames, are never too short; a
+//! caller that knows its headers lends shorter ones.
 //!
 //! # Reading
 //!
@@ -50,6 +51,10 @@
 //! # Ok(())
 //! # }
 //! ```
+//!
+//! Behind a body stands its authentication record, which
+//! [`read_header_auth_tag`] reads, and behind that, where the content is framed,
+//! stand the frames, which [`read_frames`] reads.
 //!
 //! # Writing
 //!
@@ -152,6 +157,7 @@ mod constants;
 mod draft;
 mod finding;
 mod form;
+mod frames;
 mod host;
 mod only_authenticated;
 mod parts;
@@ -169,6 +175,7 @@ pub use constants::*;
 pub use draft::{Draft, Numbers};
 pub use finding::{copy_value, find_bytes, find_part, find_value};
 pub use form::Form;
+pub use frames::{read_frames, Frame, Frames};
 pub use host::{header_number, header_position, version, write_listing};
 pub use only_authenticated::write_only_authenticated;
 pub use parts::{Key, Keys, Pair, Pairs};

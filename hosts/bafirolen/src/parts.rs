@@ -29,7 +29,7 @@ pub struct Key<'m> {
 
 /// The part of a message at the `nth` place of a table's entry.
 #[inline]
-fn part<'m>(message: &'m [u8], entry: &[u32], nth: usize) -> &'m [u8] {
+pub(crate) fn part<'m>(message: &'m [u8], entry: &[u32], nth: usize) -> &'m [u8] {
     Place::new(entry[2 * nth].into(), entry[2 * nth + 1].into()).read(message)
 }
 

@@ -48,7 +48,7 @@ macro_rules! refusals {
         }
 
         impl Refusal {
-            /// The refusal's number, 1 to 33 where it is listed.
+            /// The refusal's number, 1 to 35 where it is listed.
             #[must_use]
             pub const fn number(&self) -> u32 {
                 match self {
@@ -112,10 +112,10 @@ refusals! {
     17 ContentType "content type not 01 or 02",
     18 ReservedBytes "reserved bytes not 0",
     19 IvLength "IV length not the suite's (writing a body of version 2: not 0)",
-    20 FrameLength "frame length against content type",
+    20 FrameLength "frame length against content type, or frames with length 0",
     21 OldEmptyContext "the old form of an empty context",
     22 PairTableTooShort "pair table too short",
-    23 KeyTableTooShort "key table too short",
+    23 KeyTableTooShort "key or frame table too short",
     24 IdLength "message ID of another length",
     25 SuiteDataLength "suite data of another length",
     26 TableOrPlace "table not in fours or sixes, or a place outside the text",
@@ -126,6 +126,8 @@ refusals! {
     31 RequiredTableOrPlace "required table of odd length, or a place outside its text",
     32 PastSection "part of a context section that would end past the section",
     33 PairInOldForm "a pair in a body marked as of the old form",
+    34 SequenceNumber "sequence number of a frame not the next one",
+    35 FinalContentTooLong "content of the final frame longer than the frame length",
 }
 
 impl Refusal {

@@ -34,11 +34,13 @@ pub enum Remedy {
         /// How many bytes the message would have to have.
         position: u64,
     },
-    /// 22, 23, 28: no earlier test refused, and the lent pair table, key table
-    /// or output is too short for the answer: the variant says which. Lend a
-    /// longer one and ask again; how much longer is not said.
+    /// 22, 23, 28: no earlier test refused, and the lent pair table, the table
+    /// of keys or frames, or the output is too short for the answer: the variant
+    /// says which. Lend a longer one and ask again; how much longer is not said.
     /// Tables of [`LARGEST_PAIR_TABLE`](crate::LARGEST_PAIR_TABLE) and
-    /// [`LARGEST_KEY_TABLE`](crate::LARGEST_KEY_TABLE) numbers always suffice.
+    /// [`LARGEST_KEY_TABLE`](crate::LARGEST_KEY_TABLE) numbers always suffice,
+    /// and for frames as many as [`frame_table_len`](crate::frame_table_len)
+    /// says.
     LendMore,
     /// All others: the request is refused whatever more is fetched or lent. A
     /// reader's caller rejects the message (4, 15 and 21 depend on what was

@@ -6,10 +6,11 @@
 use bafirolen::Refusal;
 use report::{assert_said, LISTED};
 
-const SOURCES: [&str; 7] = [
+const SOURCES: [&str; 8] = [
     include_str!("../src/auth.rs"),
     include_str!("../src/body.rs"),
     include_str!("../src/finding.rs"),
+    include_str!("../src/frames.rs"),
     include_str!("../src/host.rs"),
     include_str!("../src/only_authenticated.rs"),
     include_str!("../src/sections.rs"),
@@ -17,11 +18,12 @@ const SOURCES: [&str; 7] = [
 ];
 
 /// A function, and what its operations in the comparisons begin with.
-const ROWS: [(&str, &str); 11] = [
+const ROWS: [(&str, &str); 12] = [
     ("read_aad_section", "read section"),
     ("read_encrypted_data_keys_section", "read keys"),
     ("read_header_body", "read body"),
     ("read_header_auth_tag", "read auth"),
+    ("read_frames", "read frames"),
     ("find_value", "find"),
     ("write_aad_section", "write section"),
     ("write_encrypted_data_keys_section", "write keys"),

@@ -53,6 +53,15 @@ pub fn write_keys(lent: &Lent, out: &mut [u8]) -> u64 {
 }
 
 #[inline]
+pub fn read_frames(message: &[u8], frame_length: u32, table: &mut [u32]) -> u64 {
+    told(
+        reference::read_frames(message, 0, frame_length, table)
+            .map(|read| read.tail)
+            .map_err(number),
+    )
+}
+
+#[inline]
 pub fn read_body(message: &[u8], pairs: &mut [u32], keys: &mut [u32]) -> u64 {
     let (which, mode) = (Which::Either, Mode::Tolerant);
     told(

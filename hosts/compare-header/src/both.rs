@@ -105,6 +105,12 @@ impl Codec for Both {
         row(answer, |record| (record.iv, record.tag, record.tail))
     }
 
+    fn read_frames(&self, message: &[u8], start: u64, length: u32, table: &mut [u32]) -> Section {
+        let (answer, after) = reads::read_frames(message, start, length, table);
+        table.copy_from_slice(&after);
+        row(answer, |read| (read.count as u32, read.tail))
+    }
+
     fn find(&self, message: &[u8], start: u64, key: &[u8]) -> Result<Place, Refused> {
         let answer = reads::find_value(message, start, key);
         row(answer, |place| (place.start, place.len))

@@ -1,13 +1,13 @@
 //! Answers that own what they say, so that ours and those of the separate
 //! implementation can be held against each other once nothing is lent.
 
-use bafirolen::{Context, Form, KeySection, Mode, Numbers, Place, Refusal, Which};
+use bafirolen::{Context, Form, Frames, KeySection, Mode, Numbers, Place, Refusal, Which};
 use reference::body::{OLD, TODAY};
 
 /// An answer: what was accepted, or the refusal.
 pub type Answer<T> = Result<T, Refusal>;
 
-/// A section that was read.
+/// A section that was read, or frames.
 #[derive(Clone, Copy, Debug, PartialEq, Eq)]
 pub struct Section {
     pub count: usize,
@@ -61,6 +61,16 @@ impl Ours for KeySection<'_, '_> {
         Section {
             count: self.keys().len(),
             tail: self.tail,
+        }
+    }
+}
+
+impl Ours for Frames<'_, '_> {
+    type Owned = Section;
+    fn owned(&self) -> Section {
+        Section {
+            count: self.len(),
+            tail: self.tail(),
         }
     }
 }

@@ -1,7 +1,7 @@
-//! Pairs and keys as ours gives them, held against the tables of the separate
-//! implementation.
+//! Pairs, keys and frames as ours gives them, held against the tables of the
+//! separate implementation.
 
-use bafirolen::{Key, Pair};
+use bafirolen::{Frame, Key, Pair};
 use std::ops::Range;
 
 /// The part at the `nth` place of a table.
@@ -50,4 +50,25 @@ pub fn keys_are<'m>(message: &[u8], keys: impl ExactSizeIterator<Item = Key<'m>>
         nth += 3;
     }
     assert_eq!(2 * nth, table.len(), "keys given");
+}
+
+/// The same of frames.
+pub fn frames_are<'m>(
+    message: &[u8],
+    frames: impl ExactSizeIterator<Item = Frame<'m>>,
+    table: &[u32],
+) {
+    assert_eq!(6 * frames.len(), table.len(), "frames");
+    let mut nth = 0;
+    for frame in frames {
+        assert!(
+            range(frame.iv) == range(part(message, table, nth))
+                && range(frame.content) == range(part(message, table, nth + 1))
+                && range(frame.tag) == range(part(message, table, nth + 2)),
+            "frame {}",
+            nth / 3
+        );
+        nth += 3;
+    }
+    assert_eq!(2 * nth, table.len(), "frames given");
 }

@@ -4,7 +4,7 @@ use crate::guarded::Guarded;
 use crate::kept::Kept;
 use crate::numbers::{self, auth, body, place, refused, section};
 use crate::numbers::{Answer, AuthRecord, Body, Ours, Section};
-use crate::parts::{keys_are, pairs_are};
+use crate::parts::{frames_are, keys_are, pairs_are};
 use bafirolen::{Mode, Place, Refusal, Request};
 use reference::refusal::OUTPUT;
 use std::fmt::{self, Debug, Formatter};
@@ -188,6 +188,32 @@ pub fn read_header_auth_tag(message: &[u8], start: u64, suite: u32) -> Answer<Au
         .map_err(refused);
     same(&answer, &wanted, suite, message, start);
     answer
+}
+
+/// Frames: the answer, and the table afterwards.
+pub fn read_frames(
+    message: &[u8],
+    start: u64,
+    frame_length: u32,
+    table: &[u32],
+) -> (Answer<Section>, Vec<u32>) {
+    let (mut ours, mut theirs) = (Guarded::new(table), table.to_vec());
+    let kept = Kept::new([message]);
+    let read = bafirolen::read_frames(message, start, frame_length, ours.lend());
+    kept.assert_unchanged("read frames");
+    let answer = read.as_ref().map(Ours::owned).map_err(Refusal::clone);
+    let wanted = reference::read_frames(message, start, frame_length, &mut theirs)
+        .map(|read| section(read.frames, read.tail))
+        .map_err(refused);
+    let asked = (frame_length, table.len());
+    same(&answer, &wanted, asked, message, start);
+    if let Ok(frames) = read {
+        let filled = &theirs[..6 * frames.len()];
+        assert!(frames.frame_table() == filled, "frame table");
+        frames_are(message, frames, filled);
+    }
+    ours.assert_holds(&theirs, "frame table");
+    (answer, theirs)
 }
 
 /// A value's place; what its companion returns: the same part, at the same

@@ -29,6 +29,9 @@ fn every_reader(message: &[u8], start: u64) -> u64 {
     for suite in [0x0178, 0x0578, 0x0177] {
         let _ = reads::read_header_auth_tag(message, start, suite);
     }
+    for length in [0, 1, 4_096] {
+        let _ = reads::read_frames(message, start, length, &keys);
+    }
     for key in [&b"lang"[..], b"a", b"ab", b""] {
         let _ = reads::find_value(message, start, key);
     }
@@ -37,7 +40,7 @@ fn every_reader(message: &[u8], start: u64) -> u64 {
         let _ = writes::write_only_authenticated(message, start, text, &required, &out);
     }
     reads::host_answer(message, start);
-    REQUESTS.len() as u64 + 15
+    REQUESTS.len() as u64 + 18
 }
 
 /// Every start includes those of the two sections.

@@ -8,7 +8,7 @@ use generator::headers::header_h_at_four_gibibytes;
 const GREATEST: usize = u32::MAX as usize;
 
 /// Every reader on one message and start; answers their numbers.
-fn every_reader(message: &[u8], start: u64) -> [u32; 7] {
+fn every_reader(message: &[u8], start: u64) -> [u32; 8] {
     let request = Request::default().strict().at_most(1);
     [
         number(&reads::read_aad_section(message, start, Mode::Tolerant, &[7; 4]).0),
@@ -18,6 +18,7 @@ fn every_reader(message: &[u8], start: u64) -> [u32; 7] {
         number(&reads::find_value(message, start, b"lang")),
         reads::host_answer(message, start).0,
         number(&writes::write_only_authenticated(message, start, b"lang", &[0, 4], &[7; 12]).0),
+        number(&reads::read_frames(message, start, 4_096, &[7; 6]).0),
     ]
 }
 
@@ -41,11 +42,11 @@ fn messages_of_four_gibibytes() {
     let mut count = 0;
     for start in starts {
         // One byte too long: nothing is read, whatever the start.
-        assert_eq!(every_reader(&message, start), [1; 7]);
+        assert_eq!(every_reader(&message, start), [1; 8]);
         // At the greatest length all is read, and a cut is a shortage.
         every_reader(&message[..GREATEST], start);
         every_reader(&message[..GREATEST - 1], start);
-        count += 21;
+        count += 24;
     }
     let whole = &message[..GREATEST];
     assert_eq!(every_reader(whole, at as u64)[2], 0);

@@ -8,6 +8,8 @@ use compare_header::scale::seeds;
 use compare_header::{compared, reads, request, Coverage, BODY_READERS};
 use generator::auth_cases::auth_case;
 use generator::body_cases::{body_case, BodyCase, Reader};
+use generator::frame_cases::frame_case;
+use generator::frames;
 use generator::key_cases::key_case;
 use generator::section_cases::section_case;
 use generator::Expected;
@@ -191,4 +193,26 @@ fn authentication_records() {
     coverage.print();
     coverage.assert_complete(["read auth"]);
     compared(count, "reads of authentication records");
+}
+
+#[test]
+fn runs_of_frames() {
+    let mut coverage = Coverage::default();
+    let mut count = 0;
+    for seed in seeds(1_000_000) {
+        let case = frame_case(seed);
+        let (answer, table) =
+            reads::read_frames(&case.message, case.start, case.frame_length, &case.table);
+        coverage.count("read frames", number(&answer));
+        as_expected(seed, &answer, case.expected);
+        if let (Expected::Accepted, Ok(read)) = (case.expected, answer) {
+            assert_eq!((read.count, read.tail), (case.frames.len(), case.end));
+            let wanted = frames::parts(&case.frames);
+            parts_are(seed, &case.message, &table[..6 * read.count], wanted);
+        }
+        count += 1;
+    }
+    coverage.print();
+    coverage.assert_complete(["read frames"]);
+    compared(count, "reads of frames");
 }

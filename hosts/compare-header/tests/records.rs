@@ -6,6 +6,7 @@ use compare_header::compared;
 use compare_header::scale::seeds;
 use generator::auth_cases::auth_case;
 use generator::body_cases::body_case;
+use generator::frame_cases::frame_case;
 use generator::key_cases::key_case;
 use generator::random::Random;
 use generator::section_cases::section_case;
@@ -150,6 +151,27 @@ fn keys_and_authentication_records() {
         count += 2;
     }
     compared(count, "records of key sections and authentication");
+}
+
+#[test]
+fn frames() {
+    let mut count = 0;
+    for seed in seeds(50_000) {
+        let case = frame_case(seed);
+        let (mut ours, mut theirs) = (case.table.clone(), case.table.clone());
+        let length = case.frame_length;
+        // SAFETY: as above.
+        let read = unsafe {
+            let (m, m_len) = (case.message.as_ptr(), case.message.len());
+            let (table, len) = (ours.as_mut_ptr(), ours.len());
+            bafirolen_read_frames(m, m_len, case.start, length, table, len)
+        };
+        let wanted = reference::read_frames(&case.message, case.start, length, &mut theirs);
+        assert_eq!(read, section(wanted.map(|read| (read.frames, read.tail))));
+        assert!(ours == theirs, "seed {seed}");
+        count += 1;
+    }
+    compared(count, "records of frames");
 }
 
 fn numbers(theirs: &reference::Numbers) -> BafirolenNumbers {

@@ -4,8 +4,8 @@
 use compare_header::both::{listing, Both};
 use compare_header::{compared, reads};
 use generator::image::OLD_MARKS;
-use generator::rows::{forms, header_writes, headers, listings, only_authenticated};
-use generator::rows::{records, section_writes, sections, sizes};
+use generator::rows::{forms, frame_sizes, frames, header_writes, headers, listings};
+use generator::rows::{many_frames, only_authenticated, records, section_writes, sections, sizes};
 
 /// None of the rows that a table had is lost.
 fn held(rows: u64, wanted: u64, what: &str) {
@@ -67,6 +67,27 @@ fn authentication_records() {
 }
 
 #[test]
+fn frames_read() {
+    let rows = frames::one_or_two_frames(&Both)
+        + frames::cut_and_moved(&Both)
+        + frames::tables_of_every_length(&Both)
+        + frames::every_byte(&Both)
+        + many_frames::many_frames(&Both);
+    let wanted = 5 * (30 + 24) + 2 * 115 + 26 + 114 * 255 + (2 + 8 * 5);
+    held(rows, wanted, "rows of frames");
+}
+
+#[test]
+fn frames_of_four_gibibytes() {
+    let rows = frame_sizes::frames_of_four_gibibytes(&Both);
+    held(
+        rows,
+        8 + 1 + 6 + 2 + 1 + 5 + 4 + 1,
+        "rows of frames of 4 GiB",
+    );
+}
+
+#[test]
 fn only_authenticated_pairs() {
     let rows = only_authenticated::one_section(&Both)
         + only_authenticated::empty_contexts_and_parts(&Both)
@@ -80,7 +101,7 @@ fn only_authenticated_pairs() {
 #[test]
 fn messages_of_four_gibibytes() {
     let rows = sizes::messages_of_four_gibibytes(&Both);
-    held(rows, 5 * 8 + 5 + 6, "rows of messages of 4 GiB");
+    held(rows, 5 * 9 + 5 + 6, "rows of messages of 4 GiB");
 }
 
 #[test]

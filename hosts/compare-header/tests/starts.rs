@@ -1,5 +1,5 @@
-//! Headers at starts of every size, with all of their bytes there, with some,
-//! and with none.
+//! Headers and frames at starts of every size, with all of their bytes there,
+//! with some, and with none.
 
 use bafirolen::Mode;
 use compare_header::answers::Answers;
@@ -7,6 +7,7 @@ use compare_header::every::{parts_of_keys, parts_of_pairs};
 use compare_header::expected::parts_are;
 use compare_header::{reads, requests, writes};
 use generator::fields::Fields;
+use generator::frames;
 use generator::image::{keys, section, Form, Image};
 use generator::large::{agreeing, plain, zeros};
 use generator::random::Random;
@@ -189,4 +190,46 @@ fn authentication_records() {
     let starts = starts.len() as u64;
     let wanted = [(0, 14 * starts), (2, 44 * starts)];
     answers.assert_are("records at starts up to 4 GiB", &wanted);
+}
+
+/// Frames of 3 bytes: 35 bytes, 35 and 42. The message whole, with bytes
+/// behind it, cut at every offset, and ending before the start; and so close
+/// to the greatest length that only a part of the frames is there.
+#[test]
+fn runs_of_frames() {
+    let mut memory = zeros(GREATEST);
+    let mut answers = Answers::default();
+    let three = frames::run(&mut Random::new(173), 3, 2, 2);
+    let image = frames::image(&three);
+    let bytes = &image.bytes;
+    let mut read = |message: &[u8], start: usize| {
+        let start = start as u64;
+        let (number, position) = outcome(&image, start, message);
+        let (answer, table) = reads::read_frames(message, start, 3, &[7; 18]);
+        answers.expected(&answer, number, position);
+        if number == 0 {
+            parts_are(start, message, &table, frames::parts(&three));
+        }
+    };
+    for start in starts() {
+        with_bytes(&mut memory, start, bytes, |memory| {
+            let before = [0, 1, start / 2, start - 1];
+            for end in (start..=start + bytes.len() + 3).chain(before) {
+                read(&memory[..end], start);
+            }
+        });
+    }
+    for there in 0..=bytes.len() {
+        let start = GREATEST - there;
+        with_bytes(&mut memory, start, bytes, |memory| read(memory, start));
+    }
+    read(&memory, GREATEST + 1);
+    let (length, starts) = (bytes.len() as u64, starts().len() as u64);
+    assert_eq!(length, 112);
+    let wanted = [
+        (0, 4 * starts + 1),
+        (1, 1),
+        (2, (length + 4) * starts + length),
+    ];
+    answers.assert_are("frames at starts up to 4 GiB", &wanted);
 }

@@ -1,4 +1,5 @@
-//! Seeded generation of message headers and their parts, intact and damaged.
+//! Seeded generation of message headers, their parts and the frames behind
+//! them, intact and damaged.
 //!
 //! Every function is determined by its seed; `faults`, `rows` and
 //! `section_ends`, which are written by hand, have none. Images are built here, by concatenation, so
@@ -11,6 +12,10 @@ pub mod body_cases;
 pub mod body_write_cases;
 pub mod faults;
 pub mod fields;
+pub mod frame_cases;
+pub mod frame_faults;
+pub mod frame_runs;
+pub mod frames;
 pub mod headers;
 pub mod image;
 pub mod key_cases;

@@ -1,6 +1,6 @@
 //! Equal seeds give equal requests; different ones, nearly always, others.
 
-use generator::{auth_cases, body_cases, body_write_cases, key_cases};
+use generator::{auth_cases, body_cases, body_write_cases, frame_cases, key_cases};
 use generator::{only_cases, section_cases, write_cases};
 use std::collections::HashSet;
 use std::fmt::Debug;
@@ -28,6 +28,7 @@ fn seeds_determine_requests() {
     determined("key_case", key_cases::key_case);
     determined("body_case", body_cases::body_case);
     determined("auth_case", auth_cases::auth_case);
+    determined("frame_case", frame_cases::frame_case);
     determined("write_section_case", write_cases::write_section_case);
     determined("write_keys_case", write_cases::write_keys_case);
     determined("body_write_case", body_write_cases::body_write_case);

@@ -47,6 +47,7 @@ pub const IV_LENGTH: u32 = 19;
 pub const FRAME_LENGTH: u32 = 20;
 pub const OLD_FORM: u32 = 21;
 pub const PAIR_TABLE: u32 = 22;
+/// Of a table of keys, or of frames.
 pub const KEY_TABLE: u32 = 23;
 pub const ID_LENGTH: u32 = 24;
 pub const SUITE_DATA: u32 = 25;
@@ -58,6 +59,8 @@ pub const TAG_LENGTH: u32 = 30;
 pub const REQUIRED_PLACES: u32 = 31;
 pub const PAST_SECTION: u32 = 32;
 pub const PAIR_IN_OLD_FORM: u32 = 33;
+pub const SEQUENCE_NUMBER: u32 = 34;
+pub const FINAL_CONTENT: u32 = 35;
 
 /// The greatest message length and start any reader takes. Below it every
 /// position is far from overflow, and every place fits a table entry.

@@ -1,11 +1,12 @@
 //! Tables of 32-bit numbers: a start and a length for each part, four numbers
-//! a pair and six a key.
+//! a pair, six a key and six a frame.
 
 use crate::leaves::{Place, ENTRY_MAX};
 use crate::refusal::{Refusal, PLACES, TOO_MANY_OR_LONG};
 
 pub const NUMBERS_A_PAIR: usize = 4;
 pub const NUMBERS_A_KEY: usize = 6;
+pub const NUMBERS_A_FRAME: usize = 6;
 
 /// The greatest count a section can store.
 pub const COUNT_MAX: usize = u16::MAX as usize;

@@ -4,8 +4,9 @@ use std::collections::BTreeSet;
 
 /// The refusals that document 01, or the change request that adds it, lists
 /// for each operation, in its order of tests; each stands where it comes first,
-/// such as 2 and 32, which are tested of each part in turn.
-pub const LISTED: [(&str, &[u32]); 17] = [
+/// such as 2 and 32, which are tested of each part in turn, and 34, which is
+/// tested of each frame.
+pub const LISTED: [(&str, &[u32]); 18] = [
     (
         "read section tolerant",
         &[1, 2, 32, 8, 9, 10, 11, 12, 14, 22],
@@ -57,6 +58,7 @@ pub const LISTED: [(&str, &[u32]); 17] = [
         ],
     ),
     ("read auth", &[1, 6, 2]),
+    ("read frames", &[1, 20, 2, 34, 35, 23]),
     ("write section", &[26, 27, 10, 11, 12, 13, 28]),
     ("write keys", &[26, 27, 16, 28]),
     (

@@ -18,11 +18,11 @@ fn the_numbers_of_refusals() {
                 .expect("a number")
         })
         .collect();
-    assert!(numbers.into_iter().eq(0..=33));
+    assert!(numbers.into_iter().eq(0..=35));
 }
 
 /// Each function that refuses, and the operations that its list is of.
-const FUNCTIONS: [(&str, &[&str]); 13] = [
+const FUNCTIONS: [(&str, &[&str]); 14] = [
     ("bafirolen_header_number", &["read body tolerant"]),
     ("bafirolen_read_header_body", &BODY_READERS),
     (
@@ -33,6 +33,7 @@ const FUNCTIONS: [(&str, &[&str]); 13] = [
     ("bafirolen_find_value", &["find"]),
     ("bafirolen_copy_value", &["find"]),
     ("bafirolen_read_header_auth_tag", &["read auth"]),
+    ("bafirolen_read_frames", &["read frames"]),
     ("bafirolen_write_aad_section", &["write section"]),
     (
         "bafirolen_write_encrypted_data_keys_section",

@@ -7,11 +7,12 @@ use std::collections::BTreeSet;
 const README: &str = include_str!("../../../README.md");
 
 /// A column of the table, and the operations that it is of.
-const COLUMNS: [(&str, &[&str]); 11] = [
+const COLUMNS: [(&str, &[&str]); 12] = [
     ("context", &["read section tolerant", "read section strict"]),
     ("keys", &["read keys"]),
     ("body", &BODY_READERS),
     ("record", &["read auth"]),
+    ("frames", &["read frames"]),
     ("find", &["find"]),
     ("only authenticated", &["write only authenticated"]),
     ("write context", &["write section"]),
@@ -53,7 +54,7 @@ fn the_table_of_refusals() {
         .map(cells)
         .collect();
     let numbers: Vec<u32> = rows.iter().map(|row| row[0].parse().unwrap()).collect();
-    assert!(numbers.iter().copied().eq(1..=33));
+    assert!(numbers.iter().copied().eq(1..=35));
     for (at, (_, operations)) in COLUMNS.iter().enumerate() {
         for operation in *operations {
             let listed = LISTED.iter().find(|(name, _)| name == operation);

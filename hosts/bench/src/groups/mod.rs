@@ -2,6 +2,7 @@
 
 mod bodies;
 mod context;
+mod frames;
 mod keys;
 mod leaves;
 mod lists;
@@ -32,5 +33,10 @@ pub const GROUPS: &[Group] = &[
         "bodies",
         "header bodies read and written, by their sections",
         bodies::rows,
+    ),
+    (
+        "frames",
+        "frames read, by their number and length; takes up to 4.2 GB",
+        frames::rows,
     ),
 ];

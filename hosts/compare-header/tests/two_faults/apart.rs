@@ -51,13 +51,14 @@ pub const FARTHER: &[(&str, &str, &str)] = &[
 
 /// Shortages that leave what the second looks at: a section's length decides
 /// of its count, the suite data stands behind the frame length, and a table is
-/// held against a count.
+/// held against a count, which of frames is the final one's number.
 pub const SEEN: &[(&str, &str)] = &[
     ("2 whole section", "32 pair count"),
     ("2 suite data", "20 framed"),
     ("2 suite data", "22 pair table"),
     ("2 frame length", "22 pair table"),
     ("2 ciphertext 2", "23 key table"),
+    ("2 tag 3", "23 frame table"),
 ];
 
 fn in_a_pair(name: &str) -> bool {

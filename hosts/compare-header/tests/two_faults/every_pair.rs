@@ -2,7 +2,7 @@
 
 use super::apart::apart;
 use compare_header::{compared, Coverage};
-use generator::faults::{Draft, ReadDraft, RecordDraft, WriteDraft};
+use generator::faults::{Draft, FrameDraft, ReadDraft, RecordDraft, WriteDraft};
 use std::collections::BTreeSet;
 
 /// A fault: its name, which begins with the refusal's number, and how it is
@@ -31,6 +31,11 @@ pub fn write(name: &str, plant: impl Fn(&mut WriteDraft) + 'static) -> Fault<Wri
 
 /// A fault of an authentication record.
 pub fn record(name: &str, plant: impl Fn(&mut RecordDraft) + 'static) -> Fault<RecordDraft> {
+    fault(name, plant)
+}
+
+/// A fault of frames, or of what their reader is lent.
+pub fn frame(name: &str, plant: impl Fn(&mut FrameDraft) + 'static) -> Fault<FrameDraft> {
     fault(name, plant)
 }
 

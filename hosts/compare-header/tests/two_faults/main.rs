@@ -12,6 +12,7 @@
 mod apart;
 mod bodies;
 mod every_pair;
+mod frames;
 mod reads;
 mod sections;
 mod writes;
@@ -22,6 +23,7 @@ use every_pair::Names;
 fn operations() -> Vec<Names> {
     let mut all = reads::lists();
     all.extend(bodies::lists());
+    all.push(frames::frames().names());
     all.extend(writes::lists());
     all
 }

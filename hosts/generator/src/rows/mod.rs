@@ -6,10 +6,13 @@
 //! rows it held.
 
 pub mod forms;
+pub mod frame_sizes;
+pub mod frames;
 pub mod header_writes;
 pub mod headers;
 pub mod leaves;
 pub mod listings;
+pub mod many_frames;
 pub mod only_authenticated;
 pub mod records;
 pub mod section_ends;
@@ -20,7 +23,7 @@ pub mod sizes;
 /// A refusal: number and position.
 pub type Refused = (u32, u64);
 
-/// A section that was read: pairs or keys, and the tail.
+/// A section that was read: pairs, keys or frames, and the tail.
 pub type Section = Result<(u32, u64), Refused>;
 
 /// A place: start and length.
@@ -90,6 +93,7 @@ pub trait Codec {
         keys: &mut [u32],
     ) -> Result<Body, Refused>;
     fn read_record(&self, message: &[u8], start: u64, suite: u32) -> Record;
+    fn read_frames(&self, message: &[u8], start: u64, length: u32, table: &mut [u32]) -> Section;
     fn find(&self, message: &[u8], start: u64, key: &[u8]) -> Result<Place, Refused>;
     fn find_part<'a>(&self, message: &'a [u8], start: u64, key: &[u8]) -> &'a [u8];
     fn host_answer(&self, message: &[u8], start: u64) -> (u32, u64);

@@ -28,6 +28,7 @@ fn too_long(codec: &impl Codec, long: &[u8]) -> u64 {
             codec.read_keys(long, start, None, &mut keys).err(),
             codec.read_body(long, asked, &mut pairs, &mut keys).err(),
             codec.read_record(long, start, 0).err(),
+            codec.read_frames(long, start, 0, &mut keys).err(),
             codec.find(long, start, b"").err(),
             codec
                 .write_only_authenticated(long, start, b"", &[0], &mut [])

@@ -72,6 +72,12 @@ impl Codec for Reference {
             .map_err(refusal)
     }
 
+    fn read_frames(&self, message: &[u8], start: u64, length: u32, table: &mut [u32]) -> Section {
+        read_frames(message, start, length, table)
+            .map(|read| (read.frames, read.tail))
+            .map_err(refusal)
+    }
+
     fn find(&self, message: &[u8], start: u64, key: &[u8]) -> Result<Place, Refused> {
         find(message, start, key).map(place).map_err(refusal)
     }

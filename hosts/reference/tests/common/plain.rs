@@ -1,6 +1,7 @@
 //! A slow second opinion: the source's readers line by line, with the refusals
-//! that later requests put in front of theirs, on owned bytes, with std's UTF-8
-//! and a search of a list for earlier keys.
+//! that later requests put in front of theirs, and frames as document 02 has
+//! them, on owned bytes, with std's UTF-8 and a search of a list for earlier
+//! keys.
 
 use std::str::from_utf8;
 
@@ -110,6 +111,32 @@ pub fn keys(buffer: &mut Buffer, max: Option<u64>) -> Result<Vec<Part>, No> {
         parts.push(provider);
         parts.push(buffer.entry(None)?);
         parts.push(buffer.entry(None)?);
+    }
+    Ok(parts)
+}
+
+/// Frame by frame, until one is final: IV, content and tag of each.
+pub fn frames(buffer: &mut Buffer, frame_length: u128) -> Result<Vec<Part>, No> {
+    need(frame_length > 0, 20)?;
+    let mut parts = Vec::new();
+    for next in 1.. {
+        let mut number = buffer.number(4)?;
+        let last = number == 0xFFFF_FFFF;
+        if last {
+            number = buffer.number(4)?;
+        }
+        need(number == next, 34)?;
+        parts.push(buffer.read(12)?);
+        let mut length = frame_length;
+        if last {
+            length = buffer.number(4)?;
+            need(length <= frame_length, 35)?;
+        }
+        parts.push(buffer.read(length)?);
+        parts.push(buffer.read(16)?);
+        if last {
+            break;
+        }
     }
     Ok(parts)
 }

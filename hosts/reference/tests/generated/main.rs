@@ -4,6 +4,7 @@
 
 #[path = "../common/mod.rs"]
 mod common;
+mod frames;
 mod reads;
 mod writes;
 
@@ -16,6 +17,7 @@ fn every_operation_on_generated_requests() {
         + reads::keys(&mut coverage)
         + reads::bodies(&mut coverage)
         + reads::auth(&mut coverage)
+        + frames::frames(&mut coverage)
         + writes::sections(&mut coverage)
         + writes::keys(&mut coverage)
         + writes::bodies(&mut coverage)

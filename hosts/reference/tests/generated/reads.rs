@@ -41,7 +41,7 @@ fn table_is(seed: u64, before: &[u32], after: &[u32], filled: Option<&[Part]>) {
 /// A section as both read it, with the table before and after: `read` gives
 /// count and tail, `plain` the parts and the tail; `numbers` a pair or key
 /// takes in the table. Answers how many numbers were filled.
-fn section(
+pub fn section(
     seed: u64,
     tables: [&[u32]; 2],
     numbers: usize,
@@ -60,7 +60,7 @@ fn section(
 
 /// The parts that a buffer gives and where they end; or the refusal of a
 /// table that is too short for them.
-fn within(
+pub fn within(
     parts: Vec<Part>,
     buffer: &Buffer,
     table: &[u32],
