@@ -32,7 +32,7 @@ frame-of-goes frame due true mark =
     bind-goes uint32-goes (λ number. test-goes 34 _ (bind-goes (read-goes 12) (λ iv. bind-goes uint32-goes (λ n. test-goes 35 _ (bind-goes (sealed-goes iv n) (λ f. return-goes _))))))
 frame-of-goes frame due false number = test-goes 34 _ (bind-goes (read-goes 12) (λ iv. bind-goes (sealed-goes iv frame) (λ f. return-goes _)))
 
-frame-goes : (frame due : ℕ) → Goes (read-frame frame due) (frame-list frame due) (frame-here frame) (frame-end frame)
+pub frame-goes : (frame due : ℕ) → Goes (read-frame frame due) (frame-list frame due) (frame-here frame) (frame-end frame)
 unfolding read-frame frame-list
 frame-goes frame due = bind-goes uint32-goes (λ number. frame-of-goes frame due _ number)
 

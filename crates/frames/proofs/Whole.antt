@@ -20,10 +20,10 @@ use Rattle.wire.specs.declared.Refusal.{Refusal}
 use Rattle.entries.specs.Codes.{Reads}
 use Rattle.entries.proofs.Sections.{counted, tabled-not, tabled-short, tabled-whole}
 use Rattle.entries.proofs.Tables.{refuses}
-use Rattle.frames.specs.Codes.{frames-of, frames-tabled, parts-here, part-numbers}
+use Rattle.frames.specs.Codes.{frames-of, frames-tabled, parts-here, part-numbers, Kinds}
 use Rattle.frames.specs.declared.FramesAnswer.{FramesAnswer}
 use Rattle.frames.specs.declared.FramesAnswer.the-variants.{Accepted, Refused}
-use Rattle.frames.proofs.Known.{frames-tidy, frames-within}
+use Rattle.frames.proofs.Known.{frames-tidy, frames-within, frames-kinds}
 use Rattle.frames.proofs.Answers.{count-of, frames-counts}
 
 -- a run's items, counted, and where they end
@@ -77,6 +77,11 @@ module _ (frame : ℕ) (m : List ℕ) (start : ℕ) (a : FramesAnswer) (aIs : a 
         let w = frames-within frame m start (c .items) tail (c .is) in
         let same : tail ≡ items-end (frame-end frame) m n start = e ∙ ap (λ k. items-end (frame-end frame) m k start) (c .long) in
         rw (← same) w
+
+    pub frames-of-kinds : Kinds frame m n start
+    frames-of-kinds =
+        let c = counted frames-counts (at (read-frames frame) m start) a aIs n tail (ap count-of b) in
+        rw (c .long) at (frames-kinds frame m start (c .items) tail (c .is))
 
   -- with refusal 23
   module _ (table : List ℕ) where

@@ -1,15 +1,15 @@
 -- The code's answers, of what a reader answers. Assumes nothing.
 use mathlib.Core.List.{List, [], _∷_}
-use Prim.Native.Nat.{ℕ, _+_, _*_, _<_}
+use Prim.Native.Nat.{ℕ, zero, suc, _+_, _*_, _<_}
 use lib.ListN.{length}
 use mathlib.Core.Path.{_≡_}
-use mathlib.Core.Bool.{true}
+use mathlib.Core.Bool.{true, false}
 use lib.Dec.{leb, eqb}
 use Rattle.format.specs.Read.{Reader, _>>=_, _>>_, return, test, Item, followed, last, item, Answer, accepted, refused, at}
 use Rattle.format.specs.Serialize.{Part, read, images}
 use Rattle.format.specs.Frames.{FrameAt, frame-places, read-sealed, read-frame-of, read-frames}
 use Rattle.format.specs.Lent.{place}
-use Rattle.format.specs.Places.{frame-here, frame-end}
+use Rattle.format.specs.Places.{final-here, frame-here, frame-end}
 use Rattle.wire.specs.Codes.{because}
 use Rattle.entries.specs.Codes.{next-of}
 use Rattle.entries.specs.declared.Next.{Next}
@@ -66,3 +66,9 @@ pub record FrameIs (frame : ℕ) (m : List ℕ) (s : ℕ) (r : FramePlaces) : Ty
   pub ivs : r .iv + 12 < 4294967296
   pub contents : r .content + r .len < 4294967296
   pub tags : r .tag + 16 < 4294967296
+
+-- of n frames from s on the last one is final, and no other
+abbrev pub Kinds : ℕ → List ℕ → ℕ → ℕ → Type 0
+Kinds frame m zero s = Unit {0}
+Kinds frame m (suc zero) s = final-here m s ≡ true
+Kinds frame m (suc (suc n)) s = (final-here m s ≡ false) × Kinds frame m (suc n) (frame-end frame m s)

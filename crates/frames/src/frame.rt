@@ -17,7 +17,7 @@ ghost use Rattle.entries.specs.Codes.{next-of};
 ghost use Rattle.frames.specs.Codes.{frame-read-of, read-iv, PassesSealed, ReadsFinal};
 
 // FF FF FF FF, which stands before the number of the final frame.
-pub const FINAL_MARK: u64 = 4294967295;
+const FINAL_MARK: u64 = 4294967295;
 
 // The place behind n bytes.
 fn pass(m: &[u8], s: u64, n: u64) -> Next
