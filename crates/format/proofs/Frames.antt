@@ -57,7 +57,7 @@ frame-of-listed frame due true mark =
 frame-of-listed frame due false number =
     listed-as (34 ∷ 35 ∷ []) refl (then-listed (test-listed 34 _) (bind-listed (read-listed _) (λ iv. bind-listed (sealed-listed iv frame) (λ f. return-listed _))))
 
-frame-listed : (frame due : ℕ) → Listed (34 ∷ 35 ∷ []) (read-frame frame due)
+pub frame-listed : (frame due : ℕ) → Listed (34 ∷ 35 ∷ []) (read-frame frame due)
 unfolding read-frame
 frame-listed frame due = bind-listed uint32-listed (λ number. frame-of-listed frame due _ number)
 

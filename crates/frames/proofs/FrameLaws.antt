@@ -22,9 +22,8 @@ use Rattle.entries.specs.Codes.{next-of, why-next}
 use Rattle.entries.specs.declared.Next.{Next}
 use Rattle.entries.specs.declared.Next.the-variants as next
 use Rattle.entries.proofs.Answers.{Went, next-got, next-no}
-use Rattle.frames.specs.Codes.{frame-read-of, read-iv, PassesSealed, ReadsFinal}
+use Rattle.frames.specs.Codes.{frame-at, no-frame, frame-read-of, read-iv, PassesSealed, ReadsFinal}
 use Rattle.frames.specs.declared.FrameRead.{FrameRead}
-use Rattle.frames.specs.declared.FrameRead.the-variants as read-as
 use Rattle.frames.proofs.Known.{iv-tidy, sealed-tidy}
 
 -- n bytes
@@ -108,62 +107,63 @@ iv-goes m s number due t f v = pass 34 _ _ m s (v .is-due) ∙ go f (read-tidy 1
 
 -- a regular frame behind its number
 module _ (m : List ℕ) (s number due frame : ℕ) (i : Next) (iIs : i ≡ next-of (at (read-iv number due) m s)) where
-  pub regular-no-iv : (q : Refusal) → i ≡ next.Not q → (a : Refusal) → a ≡ why-next i → read-as.Not a ≡ frame-read-of (at (read-frame-of frame due false number) m s)
+  pub regular-no-iv : (q : Refusal) → i ≡ next.Not q → (a : Refusal) → a ≡ why-next i → (r : FrameRead) → r ≡ no-frame (a .number) (a .position) → r ≡ frame-read-of (at (read-frame-of frame due false number) m s)
   unfolding read-frame-of
-  regular-no-iv q b a f = rw (f, b, iv-stops m s number due _ i iIs q b)
+  regular-no-iv q b a f r g = rw (g, f, b, iv-stops m s number due _ i iIs q b)
 
   module _ (content : ℕ) (ib : i ≡ next.At content) (c : Next) (cIs : PassesSealed frame m content c) where
-    pub regular-no-content : (q : Refusal) → c ≡ next.Not q → (a : Refusal) → a ≡ why-next c → read-as.Not a ≡ frame-read-of (at (read-frame-of frame due false number) m s)
+    pub regular-no-content : (q : Refusal) → c ≡ next.Not q → (a : Refusal) → a ≡ why-next c → (r : FrameRead) → r ≡ no-frame (a .number) (a .position) → r ≡ frame-read-of (at (read-frame-of frame due false number) m s)
     unfolding read-frame-of
-    regular-no-content q b a f =
+    regular-no-content q b a f r g =
         let v = iv-read m s number due i iIs content ib in
-        rw (f, b, iv-goes m s number due content _ v, stop _ (sealed-tidy (v .item) frame) m content _ _ (next-no (at (read-sealed (v .item) frame) m content) c (cIs .passes (v .item)) q b))
+        rw (g, f, b, iv-goes m s number due content _ v, stop _ (sealed-tidy (v .item) frame) m content _ _ (next-no (at (read-sealed (v .item) frame) m content) c (cIs .passes (v .item)) q b))
 
-    pub regular-whole : (t : ℕ) → c ≡ next.At t → read-as.Regular t ≡ frame-read-of (at (read-frame-of frame due false number) m s)
+    pub regular-whole : (t : ℕ) → c ≡ next.At t → (r : FrameRead) → r ≡ frame-at t false → r ≡ frame-read-of (at (read-frame-of frame due false number) m s)
     unfolding read-frame-of
-    regular-whole t b =
+    regular-whole t b r g =
         let v = iv-read m s number due i iIs content ib in
         let w = next-got (at (read-sealed (v .item) frame) m content) c (cIs .passes (v .item)) t b in
-        rw (iv-goes m s number due content _ v, go _ (sealed-tidy (v .item) frame) m content (w .item) t (w .is), gives _ m t)
+        rw (g, iv-goes m s number due content _ v, go _ (sealed-tidy (v .item) frame) m content (w .item) t (w .is), gives _ m t)
 
 -- a final frame behind its mark
 module _ (m : List ℕ) (s due frame : ℕ) (x : Number) (xIs : x ≡ number-of (at read-uint32 m s)) where
-  pub final-no-number : (q : Refusal) → x ≡ numbered.Not q → (a : Refusal) → a ≡ why-number x → ReadsFinal frame due m s (read-as.Not a)
+  pub final-no-number : (q : Refusal) → x ≡ numbered.Not q → (a : Refusal) → a ≡ why-number x → (r : FrameRead) → r ≡ no-frame (a .number) (a .position) → ReadsFinal frame due m s r
   unfolding read-frame-of
-  final-no-number q b a f = record { reads = λ mark. rw (f, b, stop _ uint32-tidy m s _ _ (number-no (at read-uint32 m s) x xIs q b)) }
+  final-no-number q b a f r g = record { reads = λ mark. rw (g, f, b, stop _ uint32-tidy m s _ _ (number-no (at read-uint32 m s) x xIs q b)) }
 
   module _ (number iv : ℕ) (xb : x ≡ numbered.Is number iv) (i : Next) (iIs : i ≡ next-of (at (read-iv number due) m iv)) where
     own : at read-uint32 m s ≡ accepted number iv
     own = number-got (at read-uint32 m s) x xIs number iv xb
 
-    pub final-no-iv : (q : Refusal) → i ≡ next.Not q → (a : Refusal) → a ≡ why-next i → ReadsFinal frame due m s (read-as.Not a)
+    pub final-no-iv : (q : Refusal) → i ≡ next.Not q → (a : Refusal) → a ≡ why-next i → (r : FrameRead) → r ≡ no-frame (a .number) (a .position) → ReadsFinal frame due m s r
     unfolding read-frame-of
-    final-no-iv q b a f = record { reads = λ mark. rw (f, b, go _ uint32-tidy m s number iv own, iv-stops m iv number due _ i iIs q b) }
+    final-no-iv q b a f r g = record { reads = λ mark. rw (g, f, b, go _ uint32-tidy m s number iv own, iv-stops m iv number due _ i iIs q b) }
 
     module _ (size : ℕ) (ib : i ≡ next.At size) (y : Number) (yIs : y ≡ number-of (at read-uint32 m size)) where
-      pub final-no-length : (q : Refusal) → y ≡ numbered.Not q → (a : Refusal) → a ≡ why-number y → ReadsFinal frame due m s (read-as.Not a)
+      pub final-no-length : (q : Refusal) → y ≡ numbered.Not q → (a : Refusal) → a ≡ why-number y → (r : FrameRead) → r ≡ no-frame (a .number) (a .position) → ReadsFinal frame due m s r
       unfolding read-frame-of
-      final-no-length q b a f =
+      final-no-length q b a f r g =
           let v = iv-read m iv number due i iIs size ib in
-          record { reads = λ mark. rw (f, b, go _ uint32-tidy m s number iv own, iv-goes m iv number due size _ v, stop _ uint32-tidy m size _ _ (number-no (at read-uint32 m size) y yIs q b)) }
+          record { reads = λ mark. rw (g, f, b, go _ uint32-tidy m s number iv own, iv-goes m iv number due size _ v, stop _ uint32-tidy m size _ _ (number-no (at read-uint32 m size) y yIs q b)) }
 
       module _ (n content : ℕ) (yb : y ≡ numbered.Is n content) where
         long : at read-uint32 m size ≡ accepted n content
         long = number-got (at read-uint32 m size) y yIs n content yb
 
-        pub final-35 : frame < n → (a : Refusal) → a ≡ because 35 0 → ReadsFinal frame due m s (read-as.Not a)
+        pub final-35 : frame < n → (a : Refusal) → a ≡ because 35 0 → (r : FrameRead) → r ≡ no-frame (a .number) (a .position) → ReadsFinal frame due m s r
         unfolding read-frame-of
-        final-35 h a f =
+        final-35 h a f r g =
             let v = iv-read m iv number due i iIs size ib in
-            record { reads = λ mark. rw (f, go _ uint32-tidy m s number iv own, iv-goes m iv number due size _ v, go _ uint32-tidy m size n content long, fail 35 _ _ m content (lt-leb _ _ h)) }
+            record { reads = λ mark. rw (g, f, go _ uint32-tidy m s number iv own, iv-goes m iv number due size _ v, go _ uint32-tidy m size n content long, fail 35 _ _ m content (lt-leb _ _ h)) }
 
         module _ (h : n ≤ frame) (c : Next) (cIs : PassesSealed n m content c) where
-          pub final-no-content : (q : Refusal) → c ≡ next.Not q → (a : Refusal) → a ≡ why-next c → ReadsFinal frame due m s (read-as.Not a)
+          pub final-no-content : (q : Refusal) → c ≡ next.Not q → (a : Refusal) → a ≡ why-next c → (r : FrameRead) → r ≡ no-frame (a .number) (a .position) → ReadsFinal frame due m s r
           unfolding read-frame-of
-          final-no-content q b a f =
+          final-no-content q b a f r g =
               let v = iv-read m iv number due i iIs size ib in
               record {
                 reads = λ mark. rw (
+                  g,
                   f,
                   b,
                   go _ uint32-tidy m s number iv own,
@@ -174,13 +174,14 @@ module _ (m : List ℕ) (s due frame : ℕ) (x : Number) (xIs : x ≡ number-of 
                 );
               }
 
-          pub final-whole : (t : ℕ) → c ≡ next.At t → ReadsFinal frame due m s (read-as.Final t)
+          pub final-whole : (t : ℕ) → c ≡ next.At t → (r : FrameRead) → r ≡ frame-at t true → ReadsFinal frame due m s r
           unfolding read-frame-of
-          final-whole t b =
+          final-whole t b r g =
               let v = iv-read m iv number due i iIs size ib in
               let w = next-got (at (read-sealed (v .item) n) m content) c (cIs .passes (v .item)) t b in
               record {
                 reads = λ mark. rw (
+                  g,
                   go _ uint32-tidy m s number iv own,
                   iv-goes m iv number due size _ v,
                   go _ uint32-tidy m size n content long,
@@ -192,9 +193,9 @@ module _ (m : List ℕ) (s due frame : ℕ) (x : Number) (xIs : x ≡ number-of 
 
 -- a frame
 module _ (m : List ℕ) (s due frame : ℕ) (x : Number) (xIs : x ≡ number-of (at read-uint32 m s)) where
-  pub frame-none : (q : Refusal) → x ≡ numbered.Not q → (a : Refusal) → a ≡ why-number x → read-as.Not a ≡ frame-read-of (at (read-frame frame due) m s)
+  pub frame-none : (q : Refusal) → x ≡ numbered.Not q → (a : Refusal) → a ≡ why-number x → (r : FrameRead) → r ≡ no-frame (a .number) (a .position) → r ≡ frame-read-of (at (read-frame frame due) m s)
   unfolding read-frame
-  frame-none q b a f = rw (f, b, stop _ uint32-tidy m s _ _ (number-no (at read-uint32 m s) x xIs q b))
+  frame-none q b a f r g = rw (g, f, b, stop _ uint32-tidy m s _ _ (number-no (at read-uint32 m s) x xIs q b))
 
   module _ (number t : ℕ) (xb : x ≡ numbered.Is number t) where
     first : at (read-frame frame due) m s ≡ at (read-frame-of frame due (eqb number final-mark) number) m t

@@ -5,12 +5,14 @@ use mathlib.Core.List.{List, [], _∷_, _++_}
 use Prim.Native.Nat.{ℕ, zero, suc, _+_, _≤_, _<_}
 use native.Mathlib.Omega.{arith}
 use lib.ListN.{length, drop, length-append}
-use Rattle.format.specs.Read.{Item, followed, last, behind, until, run, accepted, at}
+use Rattle.format.specs.Read.{ReadResult, success, more-needed, error, Item, followed, last, behind, until, run, accepted, refused, answer, at}
 use Rattle.format.specs.Serialize.{Part}
 use Rattle.format.specs.Frames.{FrameAt, next-number, read-sealed, read-frame-of, read-frame, read-next-frame, read-frames}
 use Rattle.format.specs.Places.{final-here, frame-of-here, frame-here, frame-end}
 use Rattle.format.proofs.Lines.{goes-accepted, goes-ended}
-use Rattle.format.proofs.Frames.{frame-goes, frames-unbounded}
+use Rattle.format.proofs.Frames.{frame-goes, frame-listed, frames-unbounded}
+use Rattle.format.proofs.ListedLaws.{Fine}
+use Rattle.format.proofs.Members.{no-member}
 use Rattle.steps.proofs.Tidy.{Tidy, tidy, uint32-tidy}
 use Rattle.steps.proofs.Steps.{refused-is-none, un-bind, un-return, inside, forward}
 use Rattle.steps.proofs.Numbers.{uint32-known}
@@ -50,6 +52,16 @@ frame-further frame due m s x t e =
     let w = inside (frame-of-tidy frame due _ n) m u (omega (arith, z .tail, z .there)) x t q in
     let l = forward (frame-of-tidy frame due _ n) m u x t q in
     record { further = omega (arith, z .tail); within = w }
+
+-- a frame is refused by a number that is not 0
+pub frame-some : (frame due : ℕ) (m : List ℕ) (s : ℕ) (k p : ℕ) → at (read-frame frame due) m s ≡ refused k p → k ≡ 0 → ⊥
+unfolding at
+frame-some frame due m s k p e z = by (read-frame frame due (drop s m) s) (frame-listed frame due .fine (drop s m) s) e
+  where
+    by : (x : ReadResult (Item FrameAt)) → Fine (34 ∷ 35 ∷ []) (s + length (drop s m)) x → answer x ≡ refused k p → ⊥
+    by (success a l t) f q = refused-is-none (sym q)
+    by (more-needed w) f q = let j : 2 ≡ k = cc in omega arith
+    by (error j) f q = let i : j ≡ k = cc in no-member (34 ∷ 35 ∷ []) 0 refl (rw (i, z) at f)
 
 -- and frames, too, end within the message
 pub frames-within : (frame : ℕ) (m : List ℕ) (s : ℕ) (fs : List FrameAt) (t : ℕ) → at (read-frames frame) m s ≡ accepted fs t → t ≤ length m

@@ -3,7 +3,7 @@ use mathlib.Core.List.{List, [], _∷_}
 use Prim.Native.Nat.{ℕ, zero, suc, _+_, _*_, _<_}
 use lib.ListN.{length}
 use mathlib.Core.Path.{_≡_}
-use mathlib.Core.Bool.{true, false}
+use mathlib.Core.Bool.{Bool, true, false}
 use lib.Dec.{leb, eqb}
 use Rattle.format.specs.Read.{Reader, _>>=_, _>>_, return, test, Item, followed, last, item, Answer, accepted, refused, at}
 use Rattle.format.specs.Serialize.{Part, read, images}
@@ -14,15 +14,20 @@ use Rattle.wire.specs.Codes.{because}
 use Rattle.entries.specs.Codes.{next-of}
 use Rattle.entries.specs.declared.Next.{Next}
 use Rattle.frames.specs.declared.FrameRead.{FrameRead}
-use Rattle.frames.specs.declared.FrameRead.the-variants as read-as
 use Rattle.frames.specs.declared.FramePlaces.{FramePlaces}
 use Rattle.frames.specs.declared.FramesAnswer.{FramesAnswer}
 use Rattle.frames.specs.declared.FramesAnswer.the-variants as frames
 
+abbrev pub frame-at : ℕ → Bool → FrameRead
+frame-at t b = record { number = 0; last = b; place = t }
+
+abbrev pub no-frame : ℕ → ℕ → FrameRead
+no-frame k p = record { number = k; last = false; place = p }
+
 abbrev pub frame-read-of : Answer (Item FrameAt) → FrameRead
-frame-read-of (accepted (followed f) t) = read-as.Regular t
-frame-read-of (accepted (last f) t) = read-as.Final t
-frame-read-of (refused k p) = read-as.Not (because k p)
+frame-read-of (accepted (followed f) t) = frame-at t false
+frame-read-of (accepted (last f) t) = frame-at t true
+frame-read-of (refused k p) = no-frame k p
 
 abbrev pub frames-of : Answer (List FrameAt) → FramesAnswer
 frames-of (accepted fs t) = frames.Accepted (length fs) t

@@ -2,6 +2,7 @@
 use super::FrameRead;
 use entries::Next;
 use wire::Number;
+use wire::Refusal;
 use wire::reading;
 use wire::refusals;
 use wire::refuse;
@@ -14,10 +15,30 @@ ghost use Rattle.format.specs.Read.{at};
 ghost use Rattle.format.specs.Serialize.{read};
 ghost use Rattle.format.specs.Frames.{read-frame-of, read-frame};
 ghost use Rattle.entries.specs.Codes.{next-of};
-ghost use Rattle.frames.specs.Codes.{frame-read-of, read-iv, PassesSealed, ReadsFinal};
+ghost use Rattle.frames.specs.Codes.{frame-at, no-frame, frame-read-of, read-iv, PassesSealed, ReadsFinal};
 
 // FF FF FF FF, which stands before the number of the final frame.
 const FINAL_MARK: u64 = 4294967295;
+
+fn frame_read(place: u64, last: bool) -> FrameRead
+    ensures { λ r. ⌜ r ≡ frame-at place last ⌝ }
+{
+    FrameRead {
+        number: refusals::NONE,
+        last,
+        place,
+    }
+}
+
+fn no_frame(q: Refusal) -> FrameRead
+    ensures { λ r. ⌜ r ≡ no-frame (q .number) (q .position) ⌝ }
+{
+    FrameRead {
+        number: q.number,
+        last: false,
+        place: q.position,
+    }
+}
 
 // The place behind n bytes.
 fn pass(m: &[u8], s: u64, n: u64) -> Next
@@ -61,13 +82,13 @@ fn regular_frame(m: &[u8], s: u64, number: u64, due: u64, frame: u64) -> FrameRe
 {
     let i = pass_iv(m, s, number, due);
     let Next::At(content) = i else {
-        return FrameRead::Not(i.refusal());
+        return no_frame(i.refusal());
     };
     let c = pass_sealed(m, content, frame);
     let Next::At(tail) = c else {
-        return FrameRead::Not(c.refusal());
+        return no_frame(c.refusal());
     };
-    FrameRead::Regular(tail)
+    frame_read(tail, false)
 }
 
 // The final frame behind the mark.
@@ -81,11 +102,11 @@ fn final_frame(m: &[u8], s: u64, due: u64, frame: u64) -> FrameRead
         tail: iv,
     } = x
     else {
-        return FrameRead::Not(x.refusal());
+        return no_frame(x.refusal());
     };
     let i = pass_iv(m, iv, number, due);
     let Next::At(size) = i else {
-        return FrameRead::Not(i.refusal());
+        return no_frame(i.refusal());
     };
     let y = reading::read_u32(m, size);
     let Number::Is {
@@ -93,16 +114,16 @@ fn final_frame(m: &[u8], s: u64, due: u64, frame: u64) -> FrameRead
         tail: content,
     } = y
     else {
-        return FrameRead::Not(y.refusal());
+        return no_frame(y.refusal());
     };
     if frame < n {
-        return FrameRead::Not(refuse(refusals::FINAL_CONTENT_TOO_LONG));
+        return no_frame(refuse(refusals::FINAL_CONTENT_TOO_LONG));
     }
     let c = pass_sealed(m, content, n);
     let Next::At(tail) = c else {
-        return FrameRead::Not(c.refusal());
+        return no_frame(c.refusal());
     };
-    FrameRead::Final(tail)
+    frame_read(tail, true)
 }
 
 // A frame, where this sequence number is due.
@@ -116,7 +137,7 @@ pub fn read_frame(m: &[u8], s: u64, due: u64, frame: u64) -> FrameRead
         tail,
     } = x
     else {
-        return FrameRead::Not(x.refusal());
+        return no_frame(x.refusal());
     };
     if number == FINAL_MARK {
         return final_frame(m, tail, due, frame);

@@ -5,7 +5,6 @@ pub mod frame;
 use wire::Refusal;
 use wire::reading;
 use wire::refusals;
-use wire::refuse;
 ghost use mathlib.Core.Path.{_≡_};
 ghost use Prim.Native.Nat.{_<_};
 ghost use lib.ListN.{length};
@@ -27,17 +26,24 @@ fn accepted(frameCount: u64, tail: u64) -> FramesAnswer
     FramesAnswer::Accepted { frameCount, tail }
 }
 
+fn refused_at(number: u8, position: u64) -> FramesAnswer
+    ensures { λ r. ⌜ r ≡ FramesAnswer.Refused (record { number = number; position = position }) ⌝ }
+{
+    FramesAnswer::Refused(Refusal { number, position })
+}
+
 fn refused(number: u8) -> FramesAnswer
     ensures { λ r. ⌜ r ≡ FramesAnswer.Refused (record { number = number; position = 0 }) ⌝ }
 {
-    FramesAnswer::Refused(refuse(number))
+    refused_at(number, 0)
 }
 
-// The place behind a frame, by its kind; or the refusal.
-pub enum FrameRead {
-    Regular(u64),
-    Final(u64),
-    Not(Refusal),
+// Where a frame that was read ends, and whether it is the last one: number 0; or a refusal's number, and its position as the place.
+// A struct and not an enum, whose cases the compiler would keep in memory.
+pub struct FrameRead {
+    pub number: u8,
+    pub last: bool,
+    pub place: u64,
 }
 
 // Where a frame's IV, content and tag stand, how long the content is, and the place behind the frame.
@@ -58,18 +64,14 @@ fn frames_at(m: &[u8], start: u64, frame: u64) -> FramesAnswer
     let mut s = start;
     loop {
         let f = frame::read_frame(m, s, done + 1, frame);
-        match f {
-            FrameRead::Regular(tail) => {
-                done += 1;
-                s = tail;
-            }
-            FrameRead::Final(tail) => {
-                return accepted(done + 1, tail);
-            }
-            FrameRead::Not(r) => {
-                return FramesAnswer::Refused(r);
-            }
+        if f.number != refusals::NONE {
+            return refused_at(f.number, f.place);
         }
+        if f.last {
+            return accepted(done + 1, f.place);
+        }
+        done += 1;
+        s = f.place;
     }
 }
 
