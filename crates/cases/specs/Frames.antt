@@ -3,7 +3,7 @@ use mathlib.Core.Path.{_≡_, refl}
 use mathlib.Core.Bool.{Bool, true}
 use mathlib.Core.List.{List, [], _∷_, _++_}
 use Prim.Native.Nat.{ℕ}
-use lib.ListN.{take, drop}
+use lib.ListN.{take}
 use Rattle.format.specs.Read.{until, run, operation}
 use Rattle.format.specs.Serialize.{every, same-bytes}
 use Rattle.format.specs.Frames.{Frame, write-regular-frame, write-final-frame, write-frames-from, write-frames, read-sealed, read-frame-of, read-frame, read-frames, read-frames-into}

@@ -2,15 +2,16 @@
 -- is what it holds now with the numbers of the items left stored. Assumes nothing.
 use mathlib.Core.Path.{_≡_, refl, sym, ap, _∙_}
 use mathlib.Core.List.{List, [], _∷_, _++_}
-use Prim.Native.Nat.{ℕ, zero, suc, _+_, _*_, _-_, _≤_, _<_}
-use native.Mathlib.Nat.{sub-zero, zero-add, add-zero, mul-suc, mul-zero}
+use Prim.Native.Nat.{ℕ, suc, _+_, _*_, _-_, _≤_, _<_}
+use native.Mathlib.Nat.{sub-zero, zero-add, add-zero, mul-suc, mul-comm, mul-zero}
 use native.Mathlib.Numerals.{add-one}
 use native.Mathlib.Omega.{arith}
-use lib.ListN.{length, set, length-append}
+use lib.ListN.{length, set}
 use lib.Seq.{sets, sets-eq, length-sets}
 use Rattle.format.specs.Serialize.{images}
 use Rattle.format.specs.Lent.{filled}
 use Rattle.format.specs.Places.{items-here, items-end}
+use Rattle.format.proofs.Filled.{each-long}
 use Rattle.entries.proofs.Items.{reach, end-step, here-length, here-step}
 
 -- storing numbers and then others behind them
@@ -24,14 +25,7 @@ pub record Numbered {A : Type 0} (end : List ℕ → ℕ → ℕ) (numbers : A �
   pub many : (a : A) → length (numbers a) ≡ k
 
 numbers-long : {A : Type 0} {end : List ℕ → ℕ → ℕ} {numbers : A → List ℕ} {k : ℕ} → Numbered end numbers k → (items : List A) → length (images numbers items) ≡ k * length items
-unfolding images
-numbers-long {k = k} each [] = sym (mul-zero k)
-numbers-long {numbers = numbers} {k = k} each (a ∷ items) =
-    let p = length-append (numbers a) (images numbers items) in
-    let q = each .many a in
-    let r = numbers-long each items in
-    let t = mul-suc k (length items) in
-    omega arith
+numbers-long {numbers = numbers} {k = k} each items = each-long numbers k (each .many) items ∙ mul-comm (length items) k
 
 -- the loop's invariant: i of n items are stored, up to j, and the next one stands at s
 pub record Fills {A : Type 0} (here : List ℕ → ℕ → A) (end : List ℕ → ℕ → ℕ) (numbers : A → List ℕ) (k : ℕ) (m table₀ table : List ℕ) (first n i j s : ℕ) : Type 0 where

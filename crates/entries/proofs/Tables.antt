@@ -1,17 +1,16 @@
 -- A table of places: that of the entries, filled in a loop; and the contract of a reader with a table. Assumes nothing.
 use mathlib.Core.Path.{_≡_, refl, sym, ap, _∙_}
 use mathlib.Core.Bool.{Bool, true, false}
-use mathlib.Core.List.{List, [], _∷_, _++_}
-use Prim.Native.Nat.{ℕ, zero, suc, _+_, _*_, _-_, _≤_, _<_}
-use native.Mathlib.Nat.{sub-zero, zero-add}
+use mathlib.Core.List.{List, [], _∷_}
+use Prim.Native.Nat.{ℕ, _+_, _*_, _-_, _≤_, _<_}
 use native.Mathlib.Numerals.{add-one}
 use native.Mathlib.Omega.{arith}
 use lib.ListN.{length, set, length-set}
-use lib.Seq.{sets, sets-eq, length-sets}
+use lib.Seq.{sets}
 use Rattle.format.specs.Read.{Reader, Answer, accepted, refused, at, addressable, operation}
-use Rattle.format.specs.Serialize.{Part, images}
-use Rattle.format.specs.Lent.{place, filled, table-after}
-use Rattle.format.specs.Places.{number16, entry-here, entry-end, items-here, entries-here, entries-end}
+use Rattle.format.specs.Serialize.{images}
+use Rattle.format.specs.Lent.{place, filled}
+use Rattle.format.specs.Places.{number16, entry-here, entry-end, entries-here, entries-end}
 use Rattle.steps.proofs.Numbers.{length-part}
 use Rattle.steps.proofs.Operations.{operation-guarded, operation-reached}
 use Rattle.entries.specs.Codes.{EntryIs, Reads}

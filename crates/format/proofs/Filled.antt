@@ -1,15 +1,34 @@
--- A reader's table, read as a writer reads it: at its places stand the bytes of what the reader gave. Assumes nothing.
+-- A reader's table: how long it is; and, read as a writer reads it, at its places stand the bytes of what the reader gave. Assumes nothing.
 use mathlib.Core.Path.{_≡_, refl, sym, ap, _∙_}
 use mathlib.Core.List.{List, [], _∷_, _++_, map}
-use Prim.Native.Nat.{ℕ, _+_}
-use lib.ListN.{length, getD, drop}
+use Prim.Native.Nat.{ℕ, _+_, _*_}
+use native.Mathlib.Omega.{arith}
+use lib.ListN.{length, getD, drop, length-append}
 use lib.Seq.{getD-drop, drop-drop}
-use native.Mathlib.Nat.{add-zero}
+use native.Mathlib.Nat.{add-zero, zero-mul, suc-mul, add-comm}
 use Rattle.format.specs.Serialize.{Part, images}
 use Rattle.format.specs.Fields.{PairAt, pair-of, pair-places, EncryptedDataKeyAt, key-of, key-places}
 use Rattle.format.specs.Frames.{FrameAt, frame-of, frame-places}
 use Rattle.format.specs.Lent.{place, pair-numbers, key-numbers, frame-numbers, filled, items, part-in, pair-in, key-in, frame-in}
 use Rattle.format.specs.Demand3.{Held, Each}
+
+-- how long tables are: items of k numbers or parts each
+pub each-long : {A B : Type 0} (f : A → List B) (k : ℕ) → ((x : A) → length (f x) ≡ k) → (xs : List A) → length (images f xs) ≡ length xs * k
+unfolding images
+each-long f k h [] = sym (zero-mul k)
+each-long f k h (x ∷ xs) = rw (length-append (f x) (images f xs), h x, each-long f k h xs, suc-mul (length xs) k, add-comm k (length xs * k)) refl
+
+pub places-long : (ps : List Part) → length (images place ps) ≡ length ps * 2
+places-long = each-long place 2 (λ p. refl)
+
+pub pair-numbers-long : (ps : List PairAt) → length (pair-numbers ps) ≡ 4 * length ps
+pair-numbers-long ps = let a = places-long (images pair-places ps) in let b = each-long pair-places 2 (λ p. refl) ps in omega arith
+
+pub key-numbers-long : (ks : List EncryptedDataKeyAt) → length (key-numbers ks) ≡ 6 * length ks
+key-numbers-long ks = let a = places-long (images key-places ks) in let b = each-long key-places 3 (λ k. refl) ks in omega arith
+
+pub frame-numbers-long : (fs : List FrameAt) → length (frame-numbers fs) ≡ 6 * length fs
+frame-numbers-long fs = let a = places-long (images frame-places fs) in let b = each-long frame-places 3 (λ f. refl) fs in omega arith
 
 -- the two numbers of a place
 pub place-there : (table : List ℕ) (p : Part) (l : List ℕ) (at : ℕ) → drop at table ≡ place p ++ l → (getD table at 0 ≡ p .start) × (getD table (at + 1) 0 ≡ length (p .bytes))

@@ -1,19 +1,18 @@
 -- What the frame reader accepts are frames as they are written, and all of those. Assumes nothing.
 use mathlib.Core.Path.{_≡_, refl, sym, ap, _∙_}
-use mathlib.Core.Bool.{Bool, true, false, not, false≢true}
+use mathlib.Core.Bool.{true, not, false≢true}
 use mathlib.Core.List.{List, [], _∷_, _++_, append-nil, map}
 use Prim.Native.Nat.{ℕ, zero, suc, _+_, _*_, _-_, _≤_, _<_}
 use native.Mathlib.Omega.{arith}
 use native.Mathlib.Nat.{suc-mul}
 use lib.Dec.{leb, eqb}
 use lib.ListN.{length, drop, length-append, length-drop}
-use Rattle.format.specs.Read.{_>>=_, _>>_, return, test, Item, followed, last, accepted, operation}
+use Rattle.format.specs.Read.{accepted, operation}
 use Rattle.format.specs.Serialize.{Bytes, images, write-uint32}
-use Rattle.format.specs.Shared.{iv-length, tag-length}
 use Rattle.format.specs.Frames.{Frame, FrameAt, frame-of, frame-places, final-mark, write-regular-frame, write-final-frame, write-frames-from, write-frames, read-frames-into}
 use Rattle.format.specs.Demand3.{Held, Each}
 use Rattle.format.specs.FrameLaws.{Sealed, FramesOf, FramesStand, FramesLaw, FrameLaws}
-use Rattle.format.proofs.Tests.{leb-is, is-leb, neqb-is, eqb-is, never}
+use Rattle.format.proofs.Tests.{leb-is, is-leb, neqb-is}
 use Rattle.format.proofs.Exact.{Exact, seq-exact, check-exact, check-as, give-exact, revalue}
 use Rattle.format.proofs.Serialize.{length-uint32, part-at}
 use Rattle.format.proofs.RunsExact.{RunOk, run-image, run-puts}

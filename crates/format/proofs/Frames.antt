@@ -1,21 +1,20 @@
 -- The frames go by their list, refuse by their numbers and want what is near; and they have no bound but the bytes. Assumes nothing.
-use mathlib.Core.Path.{_≡_, refl, sym, ap, _∙_}
-use mathlib.Core.Bool.{Bool, true, false, not}
-use mathlib.Core.List.{List, [], _∷_, _++_}
-use Prim.Native.Nat.{ℕ, suc, _+_, _≤_, _<_}
+use mathlib.Core.Path.{refl}
+use mathlib.Core.Bool.{Bool, true, false}
+use mathlib.Core.List.{[], _∷_}
+use Prim.Native.Nat.{ℕ, _+_, _≤_, _<_}
 use native.Mathlib.Omega.{arith}
-use lib.Dec.{leb, eqb}
-use Rattle.format.specs.Read.{Reader, _>>=_, _>>_, return, test, Item, run}
-use Rattle.format.specs.Serialize.{Part, read, read-uint32}
+use lib.Dec.{leb}
+use Rattle.format.specs.Serialize.{Part}
 use Rattle.format.specs.Shared.{iv-length, tag-length}
 use Rattle.format.specs.Frames.{next-number, read-sealed, read-frame-of, read-frame, read-next-frame, read-frames, read-frames-into}
 use Rattle.format.specs.Places.{part-of, frame-of-here, frame-of-end, frame-here, frame-end, frames-here, frames-end}
 use Rattle.format.specs.First.{lacks, frame-list-of, frame-list, frames-list, frames-into-list}
 use Rattle.format.specs.FrameLaws.{Unbounded}
 use Rattle.format.proofs.Tests.{is-leb}
-use Rattle.format.proofs.Lines.{Goes, goes-as, return-goes, bind-goes, test-goes, not-goes, read-goes}
+use Rattle.format.proofs.Lines.{Goes, return-goes, bind-goes, test-goes, not-goes, read-goes}
 use Rattle.format.proofs.First.{uint32-goes}
-use Rattle.format.proofs.ListedLaws.{Listed, listed-as, also, bind-listed, then-listed, return-listed, test-listed, read-listed, uint32-listed}
+use Rattle.format.proofs.ListedLaws.{Listed, listed-as, bind-listed, then-listed, return-listed, test-listed, read-listed, uint32-listed}
 use Rattle.format.proofs.WantedLaws.{Any, Wants, bind-wants, then-wants, return-wants, test-wants, tested-wants, read-wants, uint32-wants}
 use Rattle.format.proofs.Takes.{Takes, any-takes, fewer-takes, return-takes, test-takes, bind-takes, read-takes, uint32-takes}
 use Rattle.format.proofs.Runs.{run-goes, run-listed, run-wants, run-unbounded}

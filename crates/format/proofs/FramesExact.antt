@@ -1,13 +1,13 @@
 -- Frames are read exactly as they are written. Assumes nothing.
-use mathlib.Core.Path.{_≡_, refl, sym, ap, _∙_}
+use mathlib.Core.Path.{_≡_, refl, ap}
 use mathlib.Core.Bool.{Bool, true, false}
-use mathlib.Core.List.{List, [], _∷_, _++_, append-nil, append-assoc}
+use mathlib.Core.List.{List, [], _∷_, _++_, append-nil}
 use Prim.Native.Nat.{ℕ, suc, _+_, _≤_, _<_}
 use native.Mathlib.Omega.{arith}
 use lib.Dec.{leb, eqb}
 use lib.ListN.{length, length-append}
-use Rattle.format.specs.Read.{Reader, _>>=_, _>>_, return, test, Item, followed, last, run}
-use Rattle.format.specs.Serialize.{Part, read, read-uint32, write-uint32}
+use Rattle.format.specs.Read.{Item, followed, last}
+use Rattle.format.specs.Serialize.{Part, read, write-uint32}
 use Rattle.format.specs.Shared.{iv-length, tag-length}
 use Rattle.format.specs.Frames.{Frame, FrameAt, final-mark, next-number, write-regular-frame, write-final-frame, write-frames-from, read-sealed, read-frame-of, read-frame, read-next-frame, read-frames}
 use Rattle.format.specs.FrameLaws.{Sealed}

@@ -6,8 +6,8 @@ use Prim.Native.Nat.{ℕ, _+_, _-_, _≤_}
 use native.Mathlib.Omega.{arith}
 use lib.Dec.{eqb}
 use lib.ListN.{length, drop, length-drop}
-use Rattle.format.specs.Read.{ReadResult, success, more-needed, error, Reader, _>>=_, _>>_, return, test, End, no-end, end-at, repeat, Answer, refused, answer, operation}
-use Rattle.format.specs.Serialize.{Part, read-uint, read-uint8, read-uint16, read-uint32, read-short-length-seq, same-bytes}
+use Rattle.format.specs.Read.{ReadResult, success, more-needed, error, Reader, _>>=_, _>>_, return, test, End, no-end, end-at, Answer, refused, answer, operation}
+use Rattle.format.specs.Serialize.{Part, read-short-length-seq, same-bytes}
 use Rattle.format.specs.Shared.{read-message-format-version, read-esdk-suite-id, read-content-type, frame-fits}
 use Rattle.format.specs.Fields.{PairAt}
 use Rattle.format.specs.Context.{Mode, tolerant, strict, read-text, read-aad-pair, read-next-aad-pair, read-aad-by, read-aad, read-aad-of, read-aad-section, ContextAt, with-mark, read-aad-section-into, look-up, find-value}

@@ -1,20 +1,20 @@
 -- A run of items, in each judgement that readers have: its list, its refusals, what it wants; and that its bound never cuts it short.
 -- Assumes nothing.
-use mathlib.Core.Path.{_≡_, refl, sym, ap, _∙_}
-use mathlib.Core.Bool.{Bool, true, false}
-use mathlib.Core.Option.{none, some}
+use mathlib.Core.Path.{_≡_, refl, sym, _∙_}
+use mathlib.Core.Bool.{true}
+use mathlib.Core.Option.{some}
 use mathlib.Core.List.{List, [], _∷_, _++_, append-assoc}
-use Prim.Native.Nat.{ℕ, zero, suc, _+_, _-_, _≤_, _<_}
+use Prim.Native.Nat.{ℕ, zero, suc, _+_, _-_, _<_}
 use native.Mathlib.Omega.{arith}
 use lib.ListN.{length, drop, length-drop}
 use Rattle.format.specs.Read.{ReadResult, success, more-needed, error, Reader, go-on, _>>=_, return, Item, followed, last, behind, until, run, Answer, refused}
 use Rattle.format.specs.Places.{with-item, run-here, behind-item, run-end, run-bound}
 use Rattle.format.specs.First.{Line, lacks, behind-list, run-list}
 use Rattle.format.specs.FrameLaws.{Unbounded}
-use Rattle.format.proofs.Tests.{never, leb-is, is-leb}
-use Rattle.format.proofs.Lines.{first-line, one-none, Goes, goes-as, return-goes, bind-goes, read-goes}
-use Rattle.format.proofs.ListedLaws.{Fine, Listed, once, bind-listed}
-use Rattle.format.proofs.Takes.{Past, Takes}
+use Rattle.format.proofs.Tests.{never, leb-is}
+use Rattle.format.proofs.Lines.{first-line, one-none, Goes, goes-as, return-goes, bind-goes}
+use Rattle.format.proofs.ListedLaws.{Listed, once, bind-listed}
+use Rattle.format.proofs.Takes.{Takes}
 use Rattle.format.proofs.WantedLaws.{Any, Wants, return-wants, bind-wants}
 
 -- by its list

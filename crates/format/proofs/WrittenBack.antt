@@ -6,7 +6,6 @@ use mathlib.Core.Option.{none}
 use mathlib.Core.List.{List, [], _∷_, _++_, map, append-nil}
 use Prim.Native.Nat.{ℕ, _+_, _*_, _-_, _/_, _%_, _≤_}
 use native.Mathlib.Omega.{arith}
-use native.Mathlib.Nat.{zero-mul, suc-mul, add-comm}
 use lib.ListN.{length, take, drop, length-append, length-drop}
 use lib.Seq.{drop-drop, take-append-seam}
 use Rattle.format.specs.Read.{accepted}
@@ -23,17 +22,8 @@ use Rattle.format.proofs.Messages.{accepted-took}
 use Rattle.format.proofs.Held.{Within, body-held, body-within}
 use Rattle.format.proofs.Tests.{leb-is, eqb-is}
 use Rattle.format.proofs.Firsts.{unheld}
-use Rattle.format.proofs.Filled.{place-there, pairs-there, keys-there}
+use Rattle.format.proofs.Filled.{places-long, pair-numbers-long, key-numbers-long, place-there, pairs-there, keys-there}
 use Rattle.format.proofs.Written.{writes}
-
--- items of k numbers or parts each
-each-long : {A B : Type 0} (f : A → List B) (k : ℕ) → ((x : A) → length (f x) ≡ k) → (xs : List A) → length (images f xs) ≡ length xs * k
-unfolding images
-each-long f k h [] = sym (zero-mul k)
-each-long f k h (x ∷ xs) = rw (length-append (f x) (images f xs), h x, each-long f k h xs, suc-mul (length xs) k, add-comm k (length xs * k)) refl
-
-places-long : (ps : List Part) → length (images place ps) ≡ length ps * 2
-places-long = each-long place 2 (λ p. refl)
 
 -- parts within a message pass 26
 inside : (m table : List ℕ) (ps : List Part) (at : ℕ) → Each (Within m) ps → drop at table ≡ images place ps → every (in-text m table) (items here 2 (length ps) at) ≡ true
@@ -53,12 +43,6 @@ passes k m ps whole h =
 -- of a table that was filled, the entries that were
 front : (numbers table : List ℕ) (n : ℕ) → length numbers ≡ n → take n (filled numbers table) ≡ numbers
 front numbers table n e = rw (← e) (take-append-seam numbers (drop (length numbers) table))
-
-pair-numbers-long : (ps : List PairAt) → length (pair-numbers ps) ≡ 4 * length ps
-pair-numbers-long ps = let a = places-long (images pair-places ps) in let b = each-long pair-places 2 (λ p. refl) ps in omega arith
-
-key-numbers-long : (ks : List EncryptedDataKeyAt) → length (key-numbers ks) ≡ 6 * length ks
-key-numbers-long ks = let a = places-long (images key-places ks) in let b = each-long key-places 3 (λ k. refl) ks in omega arith
 
 pairs-back : (m : List ℕ) (ps : List PairAt) → Each (Held m) (images pair-places ps) → pairs-in m (pair-numbers ps) ≡ map pair-of ps
 pairs-back m ps h =

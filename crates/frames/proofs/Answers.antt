@@ -1,7 +1,6 @@
 -- The code's answers, taken apart. Assumes nothing.
 use mathlib.Core.Path.{_≡_, refl, sym, ap, _∙_}
 use mathlib.Core.Bool.{true, false}
-use mathlib.Core.List.{List}
 use Prim.Native.Nat.{ℕ}
 use Rattle.format.specs.Read.{Item, followed, last, Answer, accepted, refused}
 use Rattle.format.specs.Frames.{FrameAt}

@@ -4,15 +4,15 @@ use mathlib.Core.Bool.{Bool, true, false}
 use mathlib.Core.List.{List}
 use Prim.Native.Nat.{ℕ, _+_, _≤_, _<_}
 use native.Mathlib.Omega.{arith}
-use lib.Dec.{leb, eqb}
+use lib.Dec.{eqb}
 use lib.ListN.{length}
 use borrow.Author.Tests.{le-leb, lt-leb, eq-eqb, ne-eqb}
-use Rattle.format.specs.Read.{Reader, _>>=_, _>>_, test, Answer, accepted, refused, at, Item, followed, last}
+use Rattle.format.specs.Read.{Reader, _>>=_, _>>_, return, test, Answer, accepted, refused, at, last}
 use Rattle.format.specs.Serialize.{Part, read, read-uint32}
-use Rattle.format.specs.Frames.{FrameAt, final-mark, read-sealed, read-frame-of, read-frame}
+use Rattle.format.specs.Frames.{final-mark, read-sealed, read-frame-of, read-frame}
 use Rattle.steps.proofs.Tidy.{read-tidy, uint32-tidy}
 use Rattle.steps.proofs.Steps.{go, stop, pass, fail, gives, un-test}
-use Rattle.steps.proofs.Numbers.{read-got, read-no, read-known, uint32-known}
+use Rattle.steps.proofs.Numbers.{read-got, read-no, read-known}
 use Rattle.wire.specs.Codes.{because, number-of, why-number}
 use Rattle.wire.specs.declared.Refusal.{Refusal}
 use Rattle.wire.specs.declared.Number.{Number}
@@ -24,7 +24,7 @@ use Rattle.entries.specs.declared.Next.the-variants as next
 use Rattle.entries.proofs.Answers.{Went, next-got, next-no}
 use Rattle.frames.specs.Codes.{frame-at, no-frame, frame-read-of, read-iv, PassesSealed, ReadsFinal}
 use Rattle.frames.specs.declared.FrameRead.{FrameRead}
-use Rattle.frames.proofs.Known.{iv-tidy, sealed-tidy}
+use Rattle.frames.proofs.Known.{sealed-tidy}
 
 -- n bytes
 module _ (m : List ℕ) (s n : ℕ) where
@@ -157,39 +157,25 @@ module _ (m : List ℕ) (s due frame : ℕ) (x : Number) (xIs : x ≡ number-of 
             record { reads = λ mark. rw (g, f, go _ uint32-tidy m s number iv own, iv-goes m iv number due size _ v, go _ uint32-tidy m size n content long, fail 35 _ _ m content (lt-leb _ _ h)) }
 
         module _ (h : n ≤ frame) (c : Next) (cIs : PassesSealed n m content c) where
-          pub final-no-content : (q : Refusal) → c ≡ next.Not q → (a : Refusal) → a ≡ why-next c → (r : FrameRead) → r ≡ no-frame (a .number) (a .position) → ReadsFinal frame due m s r
+          v : IvRead m iv number due size
+          v = iv-read m iv number due i iIs size ib
+
+          to-content : (mark : ℕ) → at (read-frame-of frame due true mark) m s ≡ at (read-sealed (v .item) n >>= λ f. return (last f)) m content
           unfolding read-frame-of
+          to-content mark =
+              go _ uint32-tidy m s number iv own
+              ∙ iv-goes m iv number due size _ v
+              ∙ go _ uint32-tidy m size n content long
+              ∙ pass 35 _ _ m content (le-leb _ _ h)
+
+          pub final-no-content : (q : Refusal) → c ≡ next.Not q → (a : Refusal) → a ≡ why-next c → (r : FrameRead) → r ≡ no-frame (a .number) (a .position) → ReadsFinal frame due m s r
           final-no-content q b a f r g =
-              let v = iv-read m iv number due i iIs size ib in
-              record {
-                reads = λ mark. rw (
-                  g,
-                  f,
-                  b,
-                  go _ uint32-tidy m s number iv own,
-                  iv-goes m iv number due size _ v,
-                  go _ uint32-tidy m size n content long,
-                  pass 35 _ _ m content (le-leb _ _ h),
-                  stop _ (sealed-tidy (v .item) n) m content _ _ (next-no (at (read-sealed (v .item) n) m content) c (cIs .passes (v .item)) q b),
-                );
-              }
+              record { reads = λ mark. rw (g, f, b, to-content mark, stop _ (sealed-tidy (v .item) n) m content _ _ (next-no (at (read-sealed (v .item) n) m content) c (cIs .passes (v .item)) q b)) }
 
           pub final-whole : (t : ℕ) → c ≡ next.At t → (r : FrameRead) → r ≡ frame-at t true → ReadsFinal frame due m s r
-          unfolding read-frame-of
           final-whole t b r g =
-              let v = iv-read m iv number due i iIs size ib in
               let w = next-got (at (read-sealed (v .item) n) m content) c (cIs .passes (v .item)) t b in
-              record {
-                reads = λ mark. rw (
-                  g,
-                  go _ uint32-tidy m s number iv own,
-                  iv-goes m iv number due size _ v,
-                  go _ uint32-tidy m size n content long,
-                  pass 35 _ _ m content (le-leb _ _ h),
-                  go _ (sealed-tidy (v .item) n) m content (w .item) t (w .is),
-                  gives _ m t,
-                );
-              }
+              record { reads = λ mark. rw (g, to-content mark, go _ (sealed-tidy (v .item) n) m content (w .item) t (w .is), gives _ m t) }
 
 -- a frame
 module _ (m : List ℕ) (s due frame : ℕ) (x : Number) (xIs : x ≡ number-of (at read-uint32 m s)) where

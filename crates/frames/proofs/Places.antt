@@ -8,8 +8,9 @@ use native.Mathlib.Omega.{arith}
 use lib.Dec.{eqb}
 use lib.ListN.{length}
 use lib.Seq.{sets, length-sets}
+use Rattle.format.specs.Read.{item}
 use Rattle.format.specs.Serialize.{images}
-use Rattle.format.specs.Places.{number32, final-here, frame-of-here, frame-of-end, frame-here, frame-end, items-here, items-end}
+use Rattle.format.specs.Places.{number32, final-here, sealed-here, frame-of-here, frame-of-end, frame-here, frame-end, items-here, items-end}
 use Rattle.format.specs.Lent.{filled}
 use Rattle.format.proofs.Tests.{never, eqb-is, is-eqb, neqb-is}
 use Rattle.steps.proofs.Numbers.{length-part}
@@ -39,6 +40,19 @@ module _ (frame : ℕ) (m : List ℕ) (s : ℕ) where
   behind-number : s + 4 ≤ frame-end frame m s
   behind-number = forward-of frame (final-here m s) m (s + 4)
 
+  -- its numbers, by where its IV and its content stand
+  sealed-is : (iv c n : ℕ) → item (frame-here frame m s) ≡ sealed-here m iv c n → frame-end frame m s ≡ c + n + 16 → iv + 12 ≤ c → c + n + 16 ≤ length m → length m < 4294967296
+      → FrameIs frame m s (places-from iv c n)
+  unfolding images
+  sealed-is iv c n here end order fits small =
+      record {
+        numbers = rw (here, length-part m iv 12 (omega arith), length-part m c n (omega arith), length-part m (c + n) 16 (omega arith));
+        ends = sym end;
+        ivs = omega arith;
+        contents = omega arith;
+        tags = omega arith;
+      }
+
   -- the frame that is known to stand there
   module _ (there : frame-end frame m s ≤ length m) (last : Bool) (is : last ≡ final-here m s) where
     module _ (h : last ≡ true) where
@@ -53,28 +67,12 @@ module _ (frame : ℕ) (m : List ℕ) (s : ℕ) where
         known-final-fits = omega (arith, final-fits)
 
         pub known-final : (r : FramePlaces) → r ≡ places-from (s + 8) (s + 24) n → FrameIs frame m s r
-        unfolding frame-of-here images
+        unfolding frame-of-here
         known-final r e =
             let a : s + 4 + 4 ≡ s + 8 = omega arith in
             let b : s + 8 + 12 ≡ s + 20 = omega arith in
             let c : s + 20 + 4 ≡ s + 24 = omega arith in
-            let fits = final-fits in
-            rw e (record {
-              numbers = rw (
-                sym is ∙ h,
-                a,
-                b,
-                c,
-                ← nIs,
-                length-part m (s + 8) 12 (omega arith),
-                length-part m (s + 24) n (omega arith),
-                length-part m (s + 24 + n) 16 (omega arith),
-              );
-              ends = sym (final-end (sym is ∙ h) ∙ ap (λ k. s + 24 + k + 16) (sym nIs));
-              ivs = omega arith;
-              contents = omega arith;
-              tags = omega arith;
-            })
+            rw (e, nIs) (sealed-is (s + 8) (s + 24) (number32 m (s + 20)) (rw (sym is ∙ h, a, b, c) refl) (final-end (sym is ∙ h)) (omega arith) final-fits small)
 
     module _ (h : last ≡ false) (small : length m < 4294967296) where
       regular-fits : s + 16 + frame + 16 ≤ length m
@@ -84,23 +82,10 @@ module _ (frame : ℕ) (m : List ℕ) (s : ℕ) where
       known-regular-fits = omega (arith, regular-fits)
 
       pub known-regular : (r : FramePlaces) → r ≡ places-from (s + 4) (s + 16) frame → FrameIs frame m s r
-      unfolding frame-of-here images
+      unfolding frame-of-here
       known-regular r e =
           let b : s + 4 + 12 ≡ s + 16 = omega arith in
-          let fits = regular-fits in
-          rw e (record {
-            numbers = rw (
-              sym is ∙ h,
-              b,
-              length-part m (s + 4) 12 (omega arith),
-              length-part m (s + 16) frame (omega arith),
-              length-part m (s + 16 + frame) 16 (omega arith),
-            );
-            ends = sym (regular-end (sym is ∙ h));
-            ivs = omega arith;
-            contents = omega arith;
-            tags = omega arith;
-          })
+          rw e (sealed-is (s + 4) (s + 16) frame (rw (sym is ∙ h, b) refl) (regular-end (sym is ∙ h)) (omega arith) regular-fits small)
 
 -- six numbers, two by two
 pub put-three : (t : List ℕ) (j a b c d e f : ℕ) (t₁ t₂ t₃ : List ℕ) → t₁ ≡ sets t j (a ∷ b ∷ []) → t₂ ≡ sets t₁ (j + 2) (c ∷ d ∷ []) → t₃ ≡ sets t₂ (j + 4) (e ∷ f ∷ [])

@@ -2,11 +2,10 @@
 use mathlib.Core.Path.{_≡_, refl, sym, ap, _∙_}
 use mathlib.Core.Bool.{true, false}
 use mathlib.Core.List.{List, [], _∷_, _++_}
-use Prim.Native.Nat.{ℕ, suc, _+_, _-_, _≤_, _<_}
-use native.Mathlib.Numerals.{add-one}
+use Prim.Native.Nat.{ℕ, _+_, _-_, _≤_, _<_}
 use native.Mathlib.Omega.{arith}
 use lib.ListN.{length, length-append}
-use Rattle.format.specs.Read.{Item, followed, last, Answer, accepted, refused, at, run}
+use Rattle.format.specs.Read.{followed, last, at, run}
 use Rattle.format.specs.Frames.{FrameAt, next-number, read-frame, read-next-frame, read-frames}
 use Rattle.format.proofs.Frames.{frames-unbounded}
 use Rattle.steps.proofs.Runs.{run-more, run-ends, run-stops}

@@ -1,16 +1,15 @@
 -- The ways out of the reader of frames with their table, one law each. Assumes nothing.
 use mathlib.Core.Path.{_≡_, refl, sym, ap, ap₂, _∙_}
-use mathlib.Core.Bool.{true, false, not}
+use mathlib.Core.Bool.{not}
 use mathlib.Core.List.{List, [], _∷_, _++_}
-use Prim.Native.Nat.{ℕ, zero, suc, _+_, _*_, _/_, _≤_, _<_}
+use Prim.Native.Nat.{ℕ, zero, suc, _+_, _/_, _≤_, _<_}
 use native.Mathlib.Omega.{arith}
-use lib.Dec.{eqb}
 use lib.ListN.{length}
 use borrow.Author.Tests.{eq-eqb, ne-eqb}
-use Rattle.format.specs.Read.{Item, followed, last, item, accepted, refused, at}
+use Rattle.format.specs.Read.{Item, followed, last, item, accepted, at}
 use Rattle.format.specs.Serialize.{images}
-use Rattle.format.specs.Frames.{FrameAt, frame-places, read-frames, read-frames-into}
-use Rattle.format.specs.Lent.{place, filled, frame-numbers}
+use Rattle.format.specs.Frames.{FrameAt, read-frames, read-frames-into}
+use Rattle.format.specs.Lent.{filled, frame-numbers}
 use Rattle.format.specs.Places.{with-item, run-here, behind-item, run-end, run-bound, items-here, items-end, frame-here, frame-end, frames-here, frames-end}
 use Rattle.format.proofs.Lines.{goes-accepted, goes-ended}
 use Rattle.format.proofs.Frames.{frames-goes}

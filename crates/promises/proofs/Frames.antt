@@ -1,33 +1,22 @@
 -- The frame reader's promise, from its contract and the laws of frames. Assumes nothing.
-use Prim.Native.Nat.{ℕ, suc, _+_, _*_, _≤_}
+use Prim.Native.Nat.{ℕ, suc, _+_, _*_}
 use native.Mathlib.Omega.{arith}
 use mathlib.Core.Path.{_≡_, refl, sym, ap, ap₂, _∙_}
-use mathlib.Core.List.{List, [], _∷_, _++_, map}
-use lib.ListN.{length, drop}
+use mathlib.Core.List.{List, map}
+use lib.ListN.{length, drop, length-map}
 use lib.Seq.{drop-append-seam}
 use Rattle.format.specs.Read.{Answer, accepted, refused, operation}
 use Rattle.format.specs.Serialize.{Bytes, images}
 use Rattle.format.specs.Frames.{Frame, FrameAt, frame-of, frame-places, write-frames, read-frames-into}
-use Rattle.format.specs.Lent.{frame-numbers, filled, table-after, items, frame-in}
+use Rattle.format.specs.Lent.{frame-numbers, filled, table-after}
 use Rattle.format.specs.Demand3.{Held, Each}
 use Rattle.format.proofs.FrameLaws.{frame-laws}
-use Rattle.format.proofs.Filled.{frame-table}
+use Rattle.format.proofs.Filled.{frame-numbers-long, frame-table}
 use Rattle.wire.specs.Codes.{because}
 use Rattle.wire.specs.declared.Refusal.{Refusal}
-use Rattle.entries.specs.Codes.{Reads}
 use Rattle.frames.specs.Codes.{frames-of}
-use Rattle.frames.specs.declared.FramesAnswer.{FramesAnswer}
 use Rattle.frames.specs.declared.FramesAnswer.the-variants.{Accepted, Refused}
-use Rattle.promises.specs.Frames.{Call, Meets, StandThere, GivesFrames, Promise, FramesPromises}
-
-map-long : {A B : Type 0} (f : A → B) (l : List A) → length (map f l) ≡ length l
-map-long f [] = refl
-map-long f (x ∷ l) = ap suc (map-long f l)
-
-numbers-long : (fs : List FrameAt) → length (frame-numbers fs) ≡ 6 * length fs
-unfolding images
-numbers-long [] = refl
-numbers-long (f ∷ fs) = let e = numbers-long fs in omega arith
+use Rattle.promises.specs.Frames.{Call, Meets, GivesFrames, Promise, FramesPromises}
 
 module _ (c : Call) (hb : Bytes (c .message)) (meets : Meets c) where
   abbrev o : Answer (List FrameAt)
@@ -36,9 +25,9 @@ module _ (c : Call) (hb : Bytes (c .message)) (meets : Meets c) where
   gives : (places : List FrameAt) (t : ℕ) → o ≡ accepted places t → t ≡ c .start + length (write-frames (map frame-of places)) → Each (Held (c .message)) (images frame-places places)
       → GivesFrames c (map frame-of places)
   gives places t e tail held =
-      let long = map-long frame-of places in
+      let long = length-map places frame-of in
       let after : c .after ≡ filled (frame-numbers places) (c .before) = meets .table ∙ ap (λ (x : Answer (List FrameAt)). table-after frame-numbers x (c .before)) e in
-      let six : 6 * length (map frame-of places) ≡ length (frame-numbers places) = ap (λ n. 6 * n) long ∙ sym (numbers-long places) in
+      let six : 6 * length (map frame-of places) ≡ length (frame-numbers places) = ap (λ n. 6 * n) long ∙ sym (frame-numbers-long places) in
       record {
         answer = meets .answer ∙ ap frames-of e ∙ ap₂ Accepted (sym long) tail;
         frames = rw (after, long) (frame-table (c .message) (c .before) places held);
