@@ -114,40 +114,40 @@ frames-take frame i (suc n) (f ∷ g ∷ fs) (sealed, exactly, r) e =
 
 -- the bytes stand at the places
 module _ (m : List ℕ) where
-  record SealedHere (iv s : ℕ) (f : Frame) : Type 0 where
+  record SealedHeld (iv s : ℕ) (f : Frame) : Type 0 where
     ivs : Held m (part-at iv (f .iv))
     contents : Held m (part-at s (f .content))
     tags : Held m (part-at (s + length (f .content)) (f .tag))
 
-  sealed-here : (iv s : ℕ) (f : Frame) → Here m iv (f .iv) → Here m s (f .content ++ f .tag) → SealedHere iv s f
-  sealed-here iv s f h k =
+  sealed-held : (iv s : ℕ) (f : Frame) → Here m iv (f .iv) → Here m s (f .content ++ f .tag) → SealedHeld iv s f
+  sealed-held iv s f h k =
       record { ivs = held m iv (f .iv) h; contents = held m s (f .content) (left m s (f .content) (f .tag) k); tags = held m (s + length (f .content)) (f .tag) (right m s (f .content) (f .tag) k) }
 
   behind-number : (s n : ℕ) (b : List ℕ) → Here m s (write-uint32 n ++ b) → Here m (s + 4) b
   behind-number s n b h = rw length-uint32 at (right m s (write-uint32 n) b h)
 
-  regular-here : (s i : ℕ) (f : Frame) → Here m s (write-regular-frame i f) → SealedHere (s + 4) (s + 4 + length (f .iv)) f
+  regular-held : (s i : ℕ) (f : Frame) → Here m s (write-regular-frame i f) → SealedHeld (s + 4) (s + 4 + length (f .iv)) f
   unfolding write-regular-frame
-  regular-here s i f h =
+  regular-held s i f h =
       let a = behind-number s i (f .iv ++ (f .content ++ f .tag)) h in
-      sealed-here (s + 4) (s + 4 + length (f .iv)) f (left m (s + 4) (f .iv) (f .content ++ f .tag) a) (right m (s + 4) (f .iv) (f .content ++ f .tag) a)
+      sealed-held (s + 4) (s + 4 + length (f .iv)) f (left m (s + 4) (f .iv) (f .content ++ f .tag) a) (right m (s + 4) (f .iv) (f .content ++ f .tag) a)
 
-  final-here : (s i : ℕ) (f : Frame) → Here m s (write-final-frame i f) → SealedHere (s + 4 + 4) (s + 4 + 4 + length (f .iv) + 4) f
+  final-held : (s i : ℕ) (f : Frame) → Here m s (write-final-frame i f) → SealedHeld (s + 4 + 4) (s + 4 + 4 + length (f .iv) + 4) f
   unfolding write-final-frame
-  final-here s i f h =
+  final-held s i f h =
       let rest = write-uint32 (length (f .content)) ++ (f .content ++ f .tag) in
       let a = behind-number (s + 4) i (f .iv ++ rest) (behind-number s final-mark (write-uint32 i ++ (f .iv ++ rest)) h) in
-      sealed-here (s + 4 + 4) (s + 4 + 4 + length (f .iv) + 4) f (left m (s + 4 + 4) (f .iv) rest a)
+      sealed-held (s + 4 + 4) (s + 4 + 4 + length (f .iv) + 4) f (left m (s + 4 + 4) (f .iv) rest a)
       (behind-number (s + 4 + 4 + length (f .iv)) (length (f .content)) (f .content ++ f .tag) (right m (s + 4 + 4) (f .iv) rest a))
 
   frames-held : (i s : ℕ) (fs : List Frame) → Here m s (run-image frame-image i fs) → Each (Held m) (images frame-places (frames-at i s fs))
   unfolding run-image run-puts images
   frames-held i s [] h = tt
-  frames-held i s (f ∷ []) h = let x = final-here s (suc i) f h in (x .ivs, (x .contents, (x .tags, tt)))
+  frames-held i s (f ∷ []) h = let x = final-held s (suc i) f h in (x .ivs, (x .contents, (x .tags, tt)))
   frames-held i s (f ∷ g ∷ fs) h =
       let b = write-regular-frame (suc i) f in
       let rest = run-image frame-image (suc i) (g ∷ fs) in
-      let x = regular-here s (suc i) f (left m s b rest h) in
+      let x = regular-held s (suc i) f (left m s b rest h) in
       (x .ivs, (x .contents, (x .tags, frames-held (suc i) (s + length b) (g ∷ fs) (right m s b rest h))))
 
 not-empty : (frame i : ℕ) (fs : List Frame) → FramesOf frame fs → 0 < length (write-frames-from i fs)

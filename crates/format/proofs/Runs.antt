@@ -9,7 +9,7 @@ use native.Mathlib.Omega.{arith}
 use lib.ListN.{length, drop, length-drop}
 use Rattle.format.specs.Read.{ReadResult, success, more-needed, error, Reader, go-on, _>>=_, return, Item, followed, last, behind, until, run, Answer, refused}
 use Rattle.format.specs.Places.{with-item, run-here, behind-item, run-end, run-bound}
-use Rattle.format.specs.First.{Line, lacks, behind-list, run-list}
+use Rattle.format.specs.First.{Line, lacks, lines-behind, run-list}
 use Rattle.format.specs.FrameLaws.{Unbounded}
 use Rattle.format.proofs.Tests.{never, leb-is}
 use Rattle.format.proofs.Lines.{first-line, one-none, Goes, goes-as, return-goes, bind-goes}
@@ -22,7 +22,7 @@ module _ {A : Type 0} {step : List A → Reader (Item A)} {list : List A → Lis
     (h : (acc : List A) → Goes (step acc) (list acc) here end) where
   behind-goes : (rest : List A → Reader (List A)) (lines : List A → List ℕ → ℕ → List Line) (items : List ℕ → ℕ → List A) (ends : List ℕ → ℕ → ℕ)
       → ((acc : List A) → Goes (rest acc) (lines acc) (λ m s. acc ++ items m s) ends) → (acc : List A) (x : Item A)
-      → Goes (behind rest acc x) (λ m s. behind-list x (λ a. lines (acc ++ (a ∷ [])) m s)) (λ m s. acc ++ with-item x (items m s)) (λ m s. behind-item x s (ends m s))
+      → Goes (behind rest acc x) (λ m s. lines-behind x (λ a. lines (acc ++ (a ∷ [])) m s)) (λ m s. acc ++ with-item x (items m s)) (λ m s. behind-item x s (ends m s))
   behind-goes rest lines items ends g acc (followed a) = goes-as (g (acc ++ (a ∷ []))) (λ m s. refl) (λ m s e. (append-assoc acc (a ∷ []) (items m s), refl))
   behind-goes rest lines items ends g acc (last a) = return-goes (acc ++ (a ∷ []))
 

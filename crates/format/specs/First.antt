@@ -203,13 +203,13 @@ only-authenticated-list text required room m s =
 
 -- Items of a run, n at most. Behind the last item there is no line; a run that has not ended after n of them lacks a byte, which no run
 -- of a message does with the bound that it has below.
-abbrev pub behind-list : {A : Type 0} → Item A → (A → List Line) → List Line
-behind-list (followed a) rest = rest a
-behind-list (last a) rest = []
+abbrev pub lines-behind : {A : Type 0} → Item A → (A → List Line) → List Line
+lines-behind (followed a) rest = rest a
+lines-behind (last a) rest = []
 
 unfoldable pub run-list : {A : Type 0} → (List A → List ℕ → ℕ → List Line) → (List ℕ → ℕ → Item A) → (List ℕ → ℕ → ℕ) → ℕ → List A → List ℕ → ℕ → List Line
 run-list list here end zero done m s = lacks (run-bound m s) m s ∷ []
-run-list list here end (suc n) done m s = list done m s ++ behind-list (here m s) (λ a. run-list list here end n (done ++ (a ∷ [])) m (end m s))
+run-list list here end (suc n) done m s = list done m s ++ lines-behind (here m s) (λ a. run-list list here end n (done ++ (a ∷ [])) m (end m s))
 
 -- A frame, where that sequence number is due: behind its first number (true: the final one), and whole
 unfoldable pub frame-list-of : ℕ → ℕ → Bool → ℕ → List ℕ → ℕ → List Line
