@@ -15,7 +15,7 @@ pub record Unbounded {A : Type 0} (step : List A → Reader (Item A)) : Type 0 w
   pub unrolled : (acc : List A) (l : List ℕ) (s : ℕ) → run step acc l s ≡ (step acc >>= behind (run step) acc) l s
   pub any-bound : (n : ℕ) (acc : List A) (l : List ℕ) (s : ℕ) → length l < n → until n step acc l s ≡ run step acc l s
 
--- what a frame has of those lengths
+-- a frame's IV and tag have their lengths
 pub record Sealed (f : Frame) : Type 0 where
   pub iv : length (f .iv) ≡ iv-length
   pub tag : length (f .tag) ≡ tag-length

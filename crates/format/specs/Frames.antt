@@ -52,7 +52,7 @@ write-frames-from number (f ∷ g ∷ fs) = write-regular-frame number f ++ writ
 abbrev pub write-frames : List Frame → List ℕ
 write-frames fs = write-frames-from 1 fs
 
--- READ. Behind an IV: content of n bytes, and the tag
+-- READ. Throughout, `frame` is the frame length, and `due` the sequence number that is due. Behind an IV: content of n bytes, and the tag
 unfoldable pub read-sealed : Part → ℕ → Reader FrameAt
 read-sealed iv n = do
   content ← read n

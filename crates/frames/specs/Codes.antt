@@ -1,4 +1,4 @@
--- The code's answers, of what a reader answers. Assumes nothing.
+-- The code's answers, of what a reader answers; and what the second pass knows of the frames that were read. Assumes nothing.
 use mathlib.Core.List.{List, [], _∷_}
 use Prim.Native.Nat.{ℕ, zero, suc, _+_, _*_, _<_}
 use lib.ListN.{length}
@@ -33,7 +33,7 @@ abbrev pub frames-of : Answer (List FrameAt) → FramesAnswer
 frames-of (accepted fs t) = frames.Accepted (length fs) t
 frames-of (refused k p) = frames.Refused (because k p)
 
--- an IV, of a frame with that sequence number where another is due
+-- the IV behind a sequence number: 34 where that is not the one due
 abbrev pub read-iv : ℕ → ℕ → Reader Part
 read-iv number due = do
   test 34 (eqb number due)

@@ -1,6 +1,6 @@
 // The frames behind a header: where each one's IV, content and tag stand.
-pub mod filling;
-pub mod frame;
+mod filling;
+mod frame;
 
 use wire::Refusal;
 use wire::reading;
