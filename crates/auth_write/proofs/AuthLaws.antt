@@ -11,7 +11,7 @@ use Rattle.format.specs.Shared.{by, known}
 use Rattle.format.specs.Checks.{first, auth-checks}
 use Rattle.format.specs.Auth.{write-header-auth-tag}
 use Rattle.format.specs.Lent.{writing-header-auth-tag}
-use Rattle.format.proofs.Firsts.{holds}
+use Rattle.format.proofs.Firsts.{holds, first-pass, first-stop}
 use Rattle.suites.specs.Table.{suite-of}
 use Rattle.suites.specs.declared.Suite.{Suite}
 use Rattle.suites.specs.declared.SuiteAnswer.{SuiteAnswer}
@@ -24,7 +24,7 @@ use Rattle.checks.specs.declared.Checked.{Checked}
 use Rattle.checks.specs.declared.Checked.the-variants.{Passes, Fails}
 use Rattle.checks.specs.declared.WriteAnswer.{WriteAnswer}
 use Rattle.checks.specs.declared.WriteAnswer.the-variants.{Refused}
-use Rattle.checks.proofs.Stages.{first-pass, first-stop, stage-none}
+use Rattle.checks.proofs.Stages.{stage-none}
 use Rattle.checks.proofs.Writers.{chain, whole-bytes, writes-fails}
 use Rattle.auth_write.specs.Ready.{length-checks, auth-image, AuthReady}
 

@@ -55,7 +55,7 @@ pub struct BafirolenPlace {
     pub len: u64,
 }
 
-// What was written or copied: how many bytes from the first byte of the output on; 0 on a refusal.
+// What was written or copied, or what a write takes: how many bytes from the first byte of the output on; 0 on a refusal.
 #[repr(C)]
 pub struct BafirolenWritten {
     pub number: u64,

@@ -5,13 +5,12 @@ use mathlib.Core.Bool.{true}
 use mathlib.Core.List.{[]}
 use borrow.Author.Tests.{eq-eqb, ne-eqb}
 use Rattle.format.specs.Checks.{first, fits-form, form-checks}
-use Rattle.format.proofs.Firsts.{unheld}
+use Rattle.format.proofs.Firsts.{unheld, first-stop}
 use Rattle.fields.specs.Codes.{form-of}
 use Rattle.fields.specs.declared.Form.{Form}
 use Rattle.fields.specs.declared.Form.the-variants.{Today, Old}
 use Rattle.wire.specs.Codes.{because}
 use Rattle.checks.specs.Answers.{checked}
-use Rattle.checks.proofs.Stages.{first-stop}
 use Rattle.checks.specs.declared.Checked.{Checked}
 use Rattle.checks.specs.declared.Checked.the-variants.{Passes, Fails}
 

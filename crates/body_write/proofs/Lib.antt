@@ -5,3 +5,4 @@ pub mod FormLaws
 pub mod BodyChecks
 pub mod SectionStores
 pub mod BodyStores
+pub mod Sizes

@@ -9,7 +9,6 @@ use Rattle.checks.specs.Table.{Passed, entries-size}
 use Rattle.section_write.specs.Sizes.{aad-section-size, keys-section-size}
 use Rattle.fields.specs.Codes.{form-of, form-named}
 use Rattle.fields.specs.declared.BodyNumbers.{BodyNumbers}
-use Rattle.fields.specs.declared.Form.{Form}
 
 abbrev pub body-size : ℕ → Mark → List ℕ → List ℕ → ℕ
 body-size version form pairs keys = by version 20 35 + (aad-section-size form pairs + keys-section-size keys + by version 10 37)
@@ -27,8 +26,7 @@ pub record SectionsReady (form : Mark) (text pairTable keyTable : List ℕ) (at 
   pub fits : at + (aad-section-size form pairTable + keys-section-size keyTable) ≤ room
 
 -- what the stores of a body ask: all that was tested of numbers, lengths and places, and room
-pub record BodyReady (n : BodyNumbers) (form : Form) (size : ℕ) (messageId suiteData text pairTable keyTable : List ℕ) (room : ℕ) : Type 0 where
-  pub named : form ≡ form-named (n .form)
+pub record BodyReady (n : BodyNumbers) (size : ℕ) (messageId suiteData text pairTable keyTable : List ℕ) (room : ℕ) : Type 0 where
   pub version : n .version < 256
   pub messageType : n .messageType < 256
   pub suite : n .suite < 65536
@@ -42,5 +40,5 @@ pub record BodyReady (n : BodyNumbers) (form : Form) (size : ℕ) (messageId sui
   pub opening : 4 + length messageId ≤ by (n .version) 20 35 + 10
   pub ten : 10 ≤ by (n .version) 10 37
   pub closing : 5 + length suiteData ≤ by (n .version) 10 37
-  pub whole : size ≡ body-size (n .version) (form-of form) pairTable keyTable
+  pub whole : size ≡ body-size (n .version) (form-of (form-named (n .form))) pairTable keyTable
   pub fits : size ≤ room

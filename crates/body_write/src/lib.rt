@@ -16,6 +16,7 @@ use section_write::aad_section_size;
 use section_write::keys_section_size;
 use section_write::put_aad_section;
 use section_write::put_keys_section;
+use wire::Refusal;
 use wire::refusals::OUTPUT_TOO_SHORT;
 use wire::refusals::PAIR_IN_OLD_FORM;
 ghost use mathlib.Core.Path.{_≡_};
@@ -24,12 +25,18 @@ ghost use Prim.Native.Nat.{_+_};
 ghost use lib.ListN.{length};
 ghost use Rattle.format.specs.Context.{section-in};
 ghost use Rattle.format.specs.Checks.{first, form-checks};
-ghost use Rattle.format.specs.Lent.{pairs-in, writing-encrypted-data-keys-section, writing-header-body};
+ghost use Rattle.format.specs.Lent.{pairs-in, size-of, writing-encrypted-data-keys-section, writing-header-body};
 ghost use Rattle.wire.specs.Stored.{stored};
 ghost use Rattle.checks.specs.Answers.{checked, Writes};
 ghost use Rattle.fields.specs.Codes.{form-of};
-ghost use Rattle.body_write.specs.Lent.{body-to-write};
+ghost use Rattle.body_write.specs.Lent.{body-to-write, size-answer-of};
 ghost use Rattle.body_write.specs.Ready.{body-size, Small, SectionsReady, BodyReady};
+
+// What is told before there is an output: the length of the image, or the first refusal but for 28.
+pub enum SizeAnswer {
+    Takes(usize),
+    Refused(Refusal),
+}
 
 // 33: a record marked old has a pair.
 fn check_form(form: Form, pairs: usize) -> Checked
@@ -103,7 +110,6 @@ fn put_sections(form: Form, text: &[u8], pairs: &[u32], keys: &[u32], out: &mut 
 
 fn put_body(
     n: BodyNumbers,
-    form: Form,
     size: usize,
     messageId: &[u8],
     suiteData: &[u8],
@@ -112,11 +118,12 @@ fn put_body(
     keys: &[u32],
     out: &mut [u8],
 )
-    requires { ⌜ BodyReady n form size (now messageId) (now suiteData) (now text) (now pairs) (now keys) (length (now out)) ⌝ }
+    requires { ⌜ BodyReady n size (now messageId) (now suiteData) (now text) (now pairs) (now keys) (length (now out)) ⌝ }
     ensures { λ _. ⌜ now (out .exit) ≡ stored (now (out .entry)) 0 (writing-header-body (body-to-write n (now (messageId .entry)) (now (suiteData .entry)) (now (text .entry)) (now (pairs .entry)) (now (keys .entry))) .image) ⌝ }
 {
     opening::put_opening(n.version, n.messageType, n.suite, messageId, out);
     let at = opening::opening_size(n.version);
+    let form = form_named(n.form);
     put_sections(form, text, pairs, keys, out, at);
     let end = size - closing::closing_size(n.version);
     closing::put_closing(
@@ -129,7 +136,26 @@ fn put_body(
     );
 }
 
-// Write a body: 3; 5; 6; 7; 24; the pairs'; 33; the keys'; 17; 19; 25; 20; 28. Its context is in the form of the mark.
+// What a body takes: 3; 5; 6; 7; 24; the pairs'; 33; the keys'; 17; 19; 25; 20; else the length of its image, in the form of the mark.
+pub fn header_body_len(
+    numbers: BodyNumbers,
+    messageId: &[u8],
+    suiteData: &[u8],
+    text: &[u8],
+    pairs: &[u32],
+    keys: &[u32],
+) -> SizeAnswer
+    ensures { λ r. ⌜ r ≡ size-answer-of (size-of (writing-header-body (body-to-write numbers (now (messageId .entry)) (now (suiteData .entry)) (now (text .entry)) (now (pairs .entry)) (now (keys .entry))))) ⌝ }
+{
+    let c = check_body(numbers, messageId, suiteData, text, pairs, keys);
+    if let Checked::Fails(r) = c {
+        return SizeAnswer::Refused(r);
+    }
+    let form = form_named(numbers.form);
+    SizeAnswer::Takes(body_size(numbers.version, form, pairs, keys))
+}
+
+// Write a body: what header_body_len refuses; 28.
 pub fn write_header_body(
     numbers: BodyNumbers,
     messageId: &[u8],
@@ -141,25 +167,15 @@ pub fn write_header_body(
 ) -> WriteAnswer
     ensures { λ r. ⌜ Writes (writing-header-body (body-to-write numbers (now (messageId .entry)) (now (suiteData .entry)) (now (text .entry)) (now (pairs .entry)) (now (keys .entry)))) (now (out .entry)) (now (out .exit)) r ⌝ }
 {
-    let c = check_body(numbers, messageId, suiteData, text, pairs, keys);
-    if let Checked::Fails(r) = c {
-        return WriteAnswer::Refused(r);
+    let s = header_body_len(numbers, messageId, suiteData, text, pairs, keys);
+    match s {
+        SizeAnswer::Refused(r) => WriteAnswer::Refused(r),
+        SizeAnswer::Takes(size) => {
+            if out.len() < size {
+                return refuses(OUTPUT_TOO_SHORT);
+            }
+            put_body(numbers, size, messageId, suiteData, text, pairs, keys, out);
+            WriteAnswer::Written(size)
+        }
     }
-    let form = form_named(numbers.form);
-    let size = body_size(numbers.version, form, pairs, keys);
-    if out.len() < size {
-        return refuses(OUTPUT_TOO_SHORT);
-    }
-    put_body(
-        numbers,
-        form,
-        size,
-        messageId,
-        suiteData,
-        text,
-        pairs,
-        keys,
-        out,
-    );
-    WriteAnswer::Written(size)
 }

@@ -9,14 +9,18 @@ use Rattle.format.specs.Read.{Reader, Answer, accepted, refused, operation}
 use Rattle.format.specs.Context.{Mode, tolerant, strict, read-aad-section, read-aad-section-into, look-up, find-value}
 use Rattle.format.specs.Keys.{at-most, read-encrypted-data-keys-section-into}
 use Rattle.format.specs.Body.{Which, either, v1-only, v2-only, read-header-body}
-use Rattle.format.specs.Auth.{read-header-auth-tag, read-header-auth-tag-of}
+use Rattle.format.specs.Fields.{Form, today, old}
+use Rattle.format.specs.Auth.{read-header-auth-tag, read-header-auth-tag-of, zeros}
 use Rattle.format.specs.Frames.{read-frames-into}
 use Rattle.format.specs.OnlyAuthenticated.{write-only-authenticated}
+use Rattle.format.specs.Lent.{items, in-text, part-in, table-checks, BodyToWrite, fields-to-write, size-of, writing-header-body}
 use Rattle.format.specs.Refusals.{section-refusals, opening-refusals, reserved-refusals, frame-refusals, closing-refusals, keys-refusals, body-refusals, auth-refusals, frames-refusals}
+use Rattle.format.specs.Size.{size-refusals}
 use Rattle.cases.specs.Cases.{H, opened, laid-out}
 use Rattle.cases.specs.Headers.{bytes-from, V2}
 use Rattle.cases.specs.Tags.{selecting}
 use Rattle.cases.specs.Frames.{iv, tag, final, of-frames}
+use Rattle.cases.specs.Faults.{id, some-text, lent-in}
 use Rattle.cases.specs.Occurs.{listed-for}
 
 -- a refusal's number
@@ -188,3 +192,41 @@ frames-calls =
 pub frames-answers : map frames-said frames-calls ≡ map some frames-refusals
 unfolding opened of-frames said frames-calls final iv tag bytes-from frames-refusals
 frames-answers = refl
+
+-- bodies to write that are H but for one thing each, by what is told of their size; 27 by a part, and 13 by all parts together
+abbrev pub size-said : BodyToWrite → Option ℕ
+size-said b = number-of (size-of (writing-header-body b))
+
+abbrev opened-by : ℕ → ℕ → ℕ → List ℕ → BodyToWrite
+opened-by version messageType suite messageId = lent-in today some-text version messageType suite messageId [] [] 2 12 [] 1
+
+abbrev with-pairs : Form → List ℕ → List ℕ → BodyToWrite
+with-pairs form text pairTable = lent-in form text 1 0x80 0x0178 id pairTable [] 2 12 [] 1
+
+abbrev closed-by : List ℕ → ℕ → ℕ → List ℕ → ℕ → BodyToWrite
+closed-by = lent-in today some-text 1 0x80 0x0178 id []
+
+unfoldable pub size-calls : List BodyToWrite
+size-calls =
+    opened-by 3 0x80 0x0178 id
+    ∷ opened-by 1 0 0x0178 id
+    ∷ opened-by 1 0x80 0 id
+    ∷ opened-by 1 0x80 0x0478 id
+    ∷ opened-by 1 0x80 0x0178 []
+    ∷ with-pairs today some-text (0 ∷ 0 ∷ [])
+    ∷ with-pairs today (zeros 65536) (0 ∷ 65536 ∷ 0 ∷ 0 ∷ [])
+    ∷ with-pairs today some-text (6 ∷ 1 ∷ 0 ∷ 0 ∷ [])
+    ∷ with-pairs today some-text (0 ∷ 0 ∷ 6 ∷ 1 ∷ [])
+    ∷ with-pairs today some-text (0 ∷ 0 ∷ 0 ∷ 0 ∷ 0 ∷ 0 ∷ 0 ∷ 0 ∷ [])
+    ∷ with-pairs today (zeros 65530) (0 ∷ 65530 ∷ 0 ∷ 0 ∷ [])
+    ∷ with-pairs old some-text (0 ∷ 0 ∷ 0 ∷ 0 ∷ [])
+    ∷ closed-by (6 ∷ 1 ∷ 0 ∷ 0 ∷ 0 ∷ 0 ∷ []) 2 12 [] 1
+    ∷ closed-by [] 0 12 [] 1
+    ∷ closed-by [] 2 0 [] 1
+    ∷ closed-by [] 2 12 (0 ∷ []) 1
+    ∷ closed-by [] 2 12 [] 0
+    ∷ []
+
+pub size-answers : map size-said size-calls ≡ map some size-refusals
+unfolding opened laid-out size-calls size-refusals H zeros items in-text part-in table-checks fields-to-write writing-header-body
+size-answers = refl

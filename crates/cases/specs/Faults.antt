@@ -18,7 +18,7 @@ use Rattle.format.specs.Auth.{read-header-auth-tag, read-header-auth-tag-of, wr
 use Rattle.format.specs.Frames.{read-frames-into}
 use Rattle.format.specs.OnlyAuthenticated.{write-only-authenticated}
 use Rattle.format.specs.Checks.{first, pairs-checks, keys-checks, auth-checks}
-use Rattle.format.specs.Lent.{pair-numbers, key-numbers, frame-numbers, table-checks, Writing, refusal-of, fields-to-write, writing-aad-section, writing-encrypted-data-keys-section, writing-header-body, writing-header-auth-tag}
+use Rattle.format.specs.Lent.{pair-numbers, key-numbers, frame-numbers, table-checks, Writing, refusal-of, BodyToWrite, fields-to-write, writing-aad-section, writing-encrypted-data-keys-section, writing-header-body, writing-header-auth-tag}
 use Rattle.cases.specs.Cases.{Expected, accepts, refuses, shortage-at, is, body-numbers, H, opened, laid-out}
 use Rattle.cases.specs.Headers.{bytes-from, V2}
 use Rattle.cases.specs.Tags.{selecting}
@@ -71,13 +71,13 @@ answered (write-keys ks k) = none-else (first (keys-checks ks)) k
 abbrev before-closing : List ℕ → List ℕ
 before-closing rest = take 48 H ++ rest
 
-abbrev id : List ℕ
+abbrev pub id : List ℕ
 id = take 16 (drop 4 H)
 
 -- a call of the body writer that writes H, but for the text, the mark and the numbers given
-abbrev to-write-in : Form → List ℕ → ℕ → ℕ → ℕ → List ℕ → List ℕ → List ℕ → ℕ → ℕ → List ℕ → ℕ → Writing
-to-write-in form text version messageType suite messageId pairTable keyTable contentType iv suiteData frame =
-    writing-header-body (record {
+abbrev pub lent-in : Form → List ℕ → ℕ → ℕ → ℕ → List ℕ → List ℕ → List ℕ → ℕ → ℕ → List ℕ → ℕ → BodyToWrite
+lent-in form text version messageType suite messageId pairTable keyTable contentType iv suiteData frame =
+    record {
       version = version;
       messageType = messageType;
       suite = suite;
@@ -90,9 +90,13 @@ to-write-in form text version messageType suite messageId pairTable keyTable con
       text = text;
       pairTable = pairTable;
       keyTable = keyTable;
-    })
+    }
 
-abbrev some-text : List ℕ
+abbrev to-write-in : Form → List ℕ → ℕ → ℕ → ℕ → List ℕ → List ℕ → List ℕ → ℕ → ℕ → List ℕ → ℕ → Writing
+to-write-in form text version messageType suite messageId pairTable keyTable contentType iv suiteData frame =
+    writing-header-body (lent-in form text version messageType suite messageId pairTable keyTable contentType iv suiteData frame)
+
+abbrev pub some-text : List ℕ
 some-text = 0x6C ∷ 0x61 ∷ 0x6E ∷ 0x67 ∷ 0x63 ∷ 0x79 ∷ 0xFF ∷ []
 
 abbrev to-write : ℕ → ℕ → ℕ → List ℕ → List ℕ → List ℕ → ℕ → ℕ → List ℕ → ℕ → Writing

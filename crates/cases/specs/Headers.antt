@@ -1,6 +1,6 @@
--- More headers worked out: H without pairs in both forms, and a version 2 header; and each written back. Assumes nothing.
+-- More headers worked out: H without pairs in both forms, and a version 2 header; and each written back, its size told before. Assumes nothing.
 use mathlib.Core.Path.{_≡_, refl}
-use mathlib.Core.Bool.{Bool, true}
+use mathlib.Core.Bool.{Bool, true, false, _&&_}
 use mathlib.Core.List.{List, [], _∷_, _++_}
 use Prim.Native.Nat.{ℕ, _+_, _-_}
 use lib.Dec.{eqb}
@@ -12,7 +12,7 @@ use Rattle.format.specs.Context.{tolerant}
 use Rattle.format.specs.Keys.{no-max}
 use Rattle.format.specs.Body.{either, read-header-body}
 use Rattle.format.specs.Auth.{zeros}
-use Rattle.format.specs.Lent.{pair-numbers, key-numbers, items, in-text, part-in, fields-to-write, table-checks, refusal-of, writing-header-body, output-after}
+use Rattle.format.specs.Lent.{pair-numbers, key-numbers, items, in-text, part-in, fields-to-write, table-checks, Writing, refusal-of, size-of, writing-header-body, output-after}
 use Rattle.format.specs.WrittenBack.{again}
 use Rattle.cases.specs.Cases.{accepts, Case, body, writes, is, passes, body-numbers, H, H-fields, opened, laid-out}
 
@@ -77,10 +77,23 @@ pub headers-hold : every passes headers ≡ true
 unfolding opened laid-out headers passes is H H-fields H-with H-without-pairs bytes-from V2 V2-fields body-numbers
 headers-hold = refl
 
--- what is written of a body that was read, into an output of zeros as long as the bytes consumed and one more
+-- the call that writes a body that was read again
+abbrev writing-again : List ℕ → HeaderBody → Writing
+writing-again m b = writing-header-body (again m b (pair-numbers (b .pairs)) (key-numbers (b .keys)))
+
+-- what is written of it, into an output of zeros as long as the bytes consumed and one more
 abbrev written-again : List ℕ → ℕ → Answer HeaderBody → List ℕ
-written-again m s (accepted b t) = output-after (writing-header-body (again m b (pair-numbers (b .pairs)) (key-numbers (b .keys)))) (zeros (t - s + 1))
+written-again m s (accepted b t) = output-after (writing-again m b) (zeros (t - s + 1))
 written-again m s (refused k p) = []
+
+-- and what is told of its size
+abbrev takes : Answer (Unit {0}) → ℕ → Bool
+takes (accepted u n) size = eqb n size
+takes (refused k p) size = false
+
+abbrev told-again : List ℕ → ℕ → Answer HeaderBody → Bool
+told-again m size (accepted b t) = takes (size-of (writing-again m b)) size
+told-again m size (refused k p) = false
 
 -- the message, the start, and how many bytes the body takes
 pub record Back : Type 0 where
@@ -93,8 +106,8 @@ back m s n = record { message = m; start = s; size = n }
 
 unfoldable pub comes-back : Back → Bool
 comes-back x =
-    same-bytes (written-again (x .message) (x .start) (operation (read-header-body either tolerant no-max 4096 4096) (x .message) (x .start)))
-    (take (x .size) (drop (x .start) (x .message)) ++ (0x00 ∷ []))
+    let read = operation (read-header-body either tolerant no-max 4096 4096) (x .message) (x .start) in
+    told-again (x .message) (x .size) read && same-bytes (written-again (x .message) (x .start) read) (take (x .size) (drop (x .start) (x .message)) ++ (0x00 ∷ []))
 
 unfoldable pub refiled : List Back
 refiled =

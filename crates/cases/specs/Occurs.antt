@@ -1,4 +1,5 @@
--- Each number of the lists in Rattle.format.specs.Refusals does occur: some call of the operation answers it. Assumes nothing.
+-- Each number of the lists in Rattle.format.specs.Refusals, and of a body's size, does occur: some call of the operation answers it.
+-- Assumes nothing.
 use mathlib.Core.Path.{_≡_}
 use mathlib.Core.List.{List, List·Memᴰ}
 use Prim.Native.Nat.{ℕ}
@@ -9,7 +10,9 @@ use Rattle.format.specs.Body.{Which, request, tests-frames, read-header-body}
 use Rattle.format.specs.Auth.{read-header-auth-tag}
 use Rattle.format.specs.Frames.{read-frames-into}
 use Rattle.format.specs.OnlyAuthenticated.{write-only-authenticated}
+use Rattle.format.specs.Lent.{BodyToWrite, size-of, writing-header-body}
 use Rattle.format.specs.Refusals.{context-refusals, find-refusals, only-authenticated-refusals, keys-refusals, body-refusals, auth-refusals, frames-refusals}
+use Rattle.format.specs.Size.{size-refusals}
 
 -- there is a message and a start of which the reader answers the refusal
 pub record Answers {A : Type 0} (r : Reader A) (number : ℕ) : Type 0 where
@@ -32,3 +35,4 @@ pub record Occurs : Type 0 where
       → (max : Max) × (pairRoom : ℕ) × (keyRoom : ℕ) × Answers (read-header-body which mode max pairRoom keyRoom) k
   pub of-auth : (k : ℕ) → List·Memᴰ k auth-refusals → (suite : ℕ) × Answers (read-header-auth-tag suite) k
   pub of-frames : (k : ℕ) → List·Memᴰ k frames-refusals → (frame : ℕ) × (room : ℕ) × Answers (read-frames-into frame room) k
+  pub of-size : (k : ℕ) → List·Memᴰ k size-refusals → (b : BodyToWrite) × (size-of (writing-header-body b) ≡ refused k 0)

@@ -8,41 +8,12 @@ use mathlib.Core.List.{List, [], _∷_, _++_}
 use lib.Dec.{leb, eqb}
 use borrow.Author.Tests.{eq-eqb, ne-eqb, le-leb, lt-leb}
 use Rattle.format.specs.Checks.{Check, check, first}
-use Rattle.format.proofs.Firsts.{holds, unheld, split}
+use Rattle.format.proofs.Firsts.{holds, unheld, split, first-pass, first-stop, first-none, first-some}
 use Rattle.wire.specs.Codes.{because}
 use Rattle.wire.specs.declared.Refusal.{Refusal}
 use Rattle.checks.specs.Answers.{checked}
 use Rattle.checks.specs.declared.Checked.{Checked}
 use Rattle.checks.specs.declared.Checked.the-variants.{Passes, Fails}
-
-pub first-pass : (m : ℕ) (b : Bool) (cs : List Check) → b ≡ true → first (check m b ∷ cs) ≡ first cs
-unfolding first
-first-pass m b cs e = rw e
-
-pub first-stop : (m : ℕ) (b : Bool) (cs : List Check) → b ≡ false → first (check m b ∷ cs) ≡ some m
-unfolding first
-first-stop m b cs e = rw e
-
-abbrev branch : Bool → Option ℕ → Check → Option ℕ
-branch t o c = elim t [ true ↦ o | false ↦ some (c .number) ]
-
-pub first-none : (a b : List Check) → first a ≡ none → first (a ++ b) ≡ first b
-unfolding first
-first-none [] b e = refl
-first-none (c ∷ a) b e = go (c .passes) (first-none a b) e
-  where
-    go : (t : Bool) → (first a ≡ none → first (a ++ b) ≡ first b) → branch t (first a) c ≡ none → branch t (first (a ++ b)) c ≡ first b
-    go true f e = f e
-    go false f e = let z : _≡_ {A = ℕ} 0 1 = cc in absurd (omega arith)
-
-pub first-some : (a b : List Check) (k : ℕ) → first a ≡ some k → first (a ++ b) ≡ some k
-unfolding first
-first-some [] b k e = let z : _≡_ {A = ℕ} 0 1 = cc in absurd (omega arith)
-first-some (c ∷ a) b k e = go (c .passes) (first-some a b k) e
-  where
-    go : (t : Bool) → (first a ≡ some k → first (a ++ b) ≡ some k) → branch t (first a) c ≡ some k → branch t (first (a ++ b)) c ≡ some k
-    go true f e = f e
-    go false f e = e
 
 -- checks that give the same where those before them pass
 pub first-cong : (a x y : List Check) → (first a ≡ none → first x ≡ first y) → first (a ++ x) ≡ first (a ++ y)

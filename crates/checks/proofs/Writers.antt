@@ -1,14 +1,15 @@
 -- Laws of the ways out of a writer, and of stores one behind another. Assumes nothing.
 use Prim.Native.Nat.{ℕ, _+_, _≤_, _<_}
 use native.Mathlib.Nat.{zero-add}
-use mathlib.Core.Path.{_≡_, ap, _∙_}
-use mathlib.Core.Option.{none, some}
-use mathlib.Core.List.{List, [], _++_}
+use mathlib.Core.Path.{_≡_, sym, ap, _∙_}
+use mathlib.Core.List.{List, _++_}
 use lib.ListN.{length, take, drop}
 use lib.Seq.{take-length}
-use borrow.Author.Tests.{le-leb, lt-leb}
+use Rattle.format.specs.Read.{accepted, refused}
 use Rattle.format.specs.Checks.{first}
-use Rattle.format.specs.Lent.{Writing, refusal-of, filled}
+use Rattle.format.specs.Lent.{Writing, size-of, filled}
+use Rattle.format.proofs.Writers.{writer-law}
+use Rattle.format.proofs.Size.{size-law}
 use Rattle.wire.specs.Codes.{because}
 use Rattle.wire.specs.Stored.{stored}
 use Rattle.wire.specs.declared.Refusal.{Refusal}
@@ -18,33 +19,47 @@ use Rattle.checks.specs.declared.Checked.{Checked}
 use Rattle.checks.specs.declared.Checked.the-variants.{Passes, Fails}
 use Rattle.checks.specs.declared.WriteAnswer.{WriteAnswer}
 use Rattle.checks.specs.declared.WriteAnswer.the-variants.{Written, Refused}
-use Rattle.checks.proofs.Stages.{first-pass, first-stop, first-none, first-some, stage-none, stage-some}
+use Rattle.checks.proofs.Stages.{stage-none, stage-some}
 
 -- what was stored from the first byte on fills the output
 pub stored-first : (out image : List ℕ) → stored out 0 image ≡ filled image out
 unfolding stored
 stored-first out image = rw zero-add
 
+-- by the size that is told of what a writer is to write
+module _ (w : Writing) (out : List ℕ) where
+  pub told-refuses : (k p : ℕ) → size-of w ≡ refused k p → Writes w out out (Refused (because k p))
+  told-refuses k p e = let (a, o) = size-law w .refuses k p e out in record { answer = rw a; output = sym o }
+
+  module _ (n : ℕ) (told : size-of w ≡ accepted tt n) where
+    pub told-28 : length out < n → (a : WriteAnswer) → a ≡ Refused (because 28 0) → Writes w out out a
+    told-28 h a q =
+        let b = size-law w .too-short n told out .back h in
+        record { answer = q ∙ rw b; output = sym (writer-law w out .keeps 28 0 b .1) }
+
+    pub told-all : n ≤ length out → (after : List ℕ) → after ≡ stored out 0 (w .image) → Writes w out after (Written n)
+    told-all h after q =
+        let a = size-law w .reports n told out h in
+        let (c, d, room, o) = writer-law w out .only-then n a in
+        record { answer = rw a; output = q ∙ stored-first out (w .image) ∙ sym o }
+
+-- by what the checks found, and the length of the image
 module _ (w : Writing) (out : List ℕ) (c : Checked) (is : c ≡ checked (first (w .checks))) where
   pub writes-fails : (r : Refusal) → c ≡ Fails r → Writes w out out (Refused r)
-  unfolding refusal-of
   writes-fails r e =
       let (k, q, f) = stage-some (w .checks) c is r e in
-      let z : refusal-of w out ≡ some k = first-some (w .checks) _ k q in
-      record { answer = rw z (cc); output = rw z }
+      let z : r ≡ because k 0 = cc in
+      rw z (told-refuses w out k 0 (rw q))
 
   module _ (e : c ≡ Passes) (n : ℕ) (nIs : n ≡ length (w .image)) where
+    told : size-of w ≡ accepted tt n
+    told = rw (stage-none (w .checks) c is e, nIs)
+
     pub writes-28 : length out < n → (a : WriteAnswer) → a ≡ Refused (because 28 0) → Writes w out out a
-    unfolding refusal-of
-    writes-28 h a q =
-        let z : refusal-of w out ≡ some 28 = first-none (w .checks) _ (stage-none (w .checks) c is e) ∙ first-stop 28 _ [] (lt-leb _ _ (rw nIs at h)) in
-        record { answer = q ∙ rw z; output = rw z }
+    writes-28 = told-28 w out n told
 
     pub writes-all : n ≤ length out → (after : List ℕ) → after ≡ stored out 0 (w .image) → Writes w out after (Written n)
-    unfolding refusal-of first
-    writes-all h after q =
-        let z : refusal-of w out ≡ none = first-none (w .checks) _ (stage-none (w .checks) c is e) ∙ first-pass 28 _ [] (le-leb _ _ (rw nIs at h)) in
-        record { answer = rw (z, nIs); output = q ∙ stored-first out (w .image) ∙ rw z }
+    writes-all = told-all w out n told
 
 -- all the bytes that are lent
 pub whole-bytes : (bytes : List ℕ) → take (length bytes) (drop 0 bytes) ≡ bytes

@@ -52,6 +52,36 @@ pub or-right : (a : Bool) {b : Bool} → b ≡ true → (a || b) ≡ true
 or-right true e = refl
 or-right false e = e
 
+-- the first of one check, and of two lists: of the second where none of the first applies
+pub first-pass : (m : ℕ) (b : Bool) (cs : List Check) → b ≡ true → first (check m b ∷ cs) ≡ first cs
+unfolding first
+first-pass m b cs e = rw e
+
+pub first-stop : (m : ℕ) (b : Bool) (cs : List Check) → b ≡ false → first (check m b ∷ cs) ≡ some m
+unfolding first
+first-stop m b cs e = rw e
+
+abbrev branch : Bool → Option ℕ → Check → Option ℕ
+branch t o c = elim t [ true ↦ o | false ↦ some (c .number) ]
+
+pub first-none : (a b : List Check) → first a ≡ none → first (a ++ b) ≡ first b
+unfolding first
+first-none [] b e = refl
+first-none (c ∷ a) b e = go (c .passes) (first-none a b) e
+  where
+    go : (t : Bool) → (first a ≡ none → first (a ++ b) ≡ first b) → branch t (first a) c ≡ none → branch t (first (a ++ b)) c ≡ first b
+    go true f e = f e
+    go false f e = let z : _≡_ {A = ℕ} 0 1 = cc in absurd (omega arith)
+
+pub first-some : (a b : List Check) (k : ℕ) → first a ≡ some k → first (a ++ b) ≡ some k
+unfolding first
+first-some [] b k e = let z : _≡_ {A = ℕ} 0 1 = cc in absurd (omega arith)
+first-some (c ∷ a) b k e = go (c .passes) (first-some a b k) e
+  where
+    go : (t : Bool) → (first a ≡ some k → first (a ++ b) ≡ some k) → branch t (first a) c ≡ some k → branch t (first (a ++ b)) c ≡ some k
+    go true f e = f e
+    go false f e = e
+
 pub first-fails : (checks : List Check) (k : ℕ) → first checks ≡ some k → FirstFails checks k
 unfolding first every
 first-fails [] k e = let z : _≡_ {A = ℕ} 0 1 = cc in absurd (omega arith)

@@ -16,7 +16,7 @@ abbrev pub has-all : List ℕ → List ℕ → Bool
 has-all js [] = true
 has-all js (k ∷ ks) = has js k && has-all js ks
 
-is-member : (js : List ℕ) (k : ℕ) → has js k ≡ true → List·Memᴰ k js
+pub is-member : (js : List ℕ) (k : ℕ) → has js k ≡ true → List·Memᴰ k js
 is-member [] k e = absurd (false≢true e)
 is-member (j ∷ js) k e = go (eqb k j) refl e (is-member js k)
   where

@@ -13,9 +13,19 @@ use Rattle.format.specs.Sections.{WriterLaw}
 use Rattle.format.proofs.Tests.{leb-is, is-leb}
 use Rattle.format.proofs.Firsts.{Holds, holds, unheld, split, join}
 
+-- what an answer says of what was found
+module _ (image : List ℕ) where
+  pub of-accepted : (o : Option ℕ) (n : ℕ) → written-of o image ≡ accepted tt n → (o ≡ none) × (n ≡ length image)
+  of-accepted none n e = (refl, cc)
+  of-accepted (some k) n e = let z : _≡_ {A = ℕ} 0 1 = cc in absurd (omega arith)
+
+  pub of-refused : (o : Option ℕ) (k p : ℕ) → written-of o image ≡ refused k p → (o ≡ some k) × (p ≡ 0)
+  of-refused none k p e = let z : _≡_ {A = ℕ} 0 1 = cc in absurd (omega arith)
+  of-refused (some j) k p e = (ap some (cc), cc)
+
 -- a writer's refusal is none just where its checks hold and the image fits
 module _ (w : Writing) (out : List ℕ) where
-  none-then : first (w .checks) ≡ none → length (w .image) ≤ length out → refusal-of w out ≡ none
+  pub none-then : first (w .checks) ≡ none → length (w .image) ≤ length out → refusal-of w out ≡ none
   unfolding refusal-of
   none-then e h = unheld (w .checks ++ (check 28 (leb (length (w .image)) (length out)) ∷ [])) (join (w .checks) (check 28 (leb (length (w .image)) (length out)) ∷ []) (holds (w .checks) e) (leb-is _ _ h, tt))
 
@@ -25,13 +35,6 @@ module _ (w : Writing) (out : List ℕ) where
       let (a, b) = split (w .checks) (check 28 (leb (length (w .image)) (length out)) ∷ []) (holds (w .checks ++ (check 28 (leb (length (w .image)) (length out)) ∷ [])) e) in
       (a, is-leb _ _ (b .0))
 
-  accepted-then : (n : ℕ) → written w out ≡ accepted tt n → (refusal-of w out ≡ none) × (n ≡ length (w .image))
-  accepted-then n e = go (refusal-of w out) refl e
-    where
-      go : (o : Option ℕ) → refusal-of w out ≡ o → written-of o (w .image) ≡ accepted tt n → (refusal-of w out ≡ none) × (n ≡ length (w .image))
-      go none q e = (q, cc)
-      go (some k) q e = let z : _≡_ {A = ℕ} 0 1 = cc in absurd (omega arith)
-
   output-then : refusal-of w out ≡ none → output-after w out ≡ filled (w .image) out
   output-then e = rw e refl
 
@@ -40,8 +43,7 @@ module _ (w : Writing) (out : List ℕ) where
   filled-length h = let p = length-append (w .image) (drop (length (w .image)) out) in let q = length-drop (length (w .image)) out in omega arith
 
   kept : (o : Option ℕ) (k p : ℕ) → written-of o (w .image) ≡ refused k p → (p ≡ 0) × (output-of o (w .image) out ≡ out)
-  kept none k p e = let z : _≡_ {A = ℕ} 0 1 = cc in absurd (omega arith)
-  kept (some j) k p e = (cc, refl)
+  kept o k p e = let (q, z) = of-refused (w .image) o k p e in (z, rw q refl)
 
   same-length : (o : Option ℕ) → refusal-of w out ≡ o → length (output-of o (w .image) out) ≡ length out
   same-length none e = filled-length (then-none e .1)
@@ -52,7 +54,7 @@ module _ (w : Writing) (out : List ℕ) where
       record {
         writes = λ c h. (let e : refusal-of w out ≡ none = none-then c h in (rw e refl, rw e refl));
         only-then = λ n e.
-            (let (o, d) = accepted-then n e in
+            (let (o, d) = of-accepted (w .image) (refusal-of w out) n e in
             let (h, room) = then-none o in
             (unheld (w .checks) h, d, rw d room, output-then o));
         keeps = λ k p e. kept (refusal-of w out) k p e;

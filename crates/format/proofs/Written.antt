@@ -57,7 +57,7 @@ unfolding write-opening-of write-uint16
 front-long true version messageType suite id e = omega arith
 front-long false version messageType suite id e = omega arith
 
-same-images : (f : Fields) → Images f
+pub same-images : (f : Fields) → Images f
 unfolding image
 same-images f =
     record {

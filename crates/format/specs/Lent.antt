@@ -112,6 +112,10 @@ written-of (some k) image = refused k 0
 abbrev pub written : Writing → List ℕ → Answer (Unit {0})
 written w out = written-of (refusal-of w out) (w .image)
 
+-- and what is told before there is an output: the first refusal other than 28, or else the image's length
+abbrev pub size-of : Writing → Answer (Unit {0})
+size-of w = written-of (first (w .checks)) (w .image)
+
 -- and its output afterwards: the image from the first byte on, or, on a refusal, as it was
 abbrev pub output-of : Option ℕ → List ℕ → List ℕ → List ℕ
 output-of none image out = filled image out

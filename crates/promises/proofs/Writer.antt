@@ -26,9 +26,13 @@ use Rattle.promises.specs.Reader.{Call, reading, Meets, Accepts}
 use Rattle.promises.specs.Writer.{all-checks, ByChecks, Write, lent, fields, mark, its-image, MeetsWriter, NoneApplies, Sentence4, WriterPromises}
 use Rattle.promises.proofs.Reader.{accepts}
 
-written-is : (r : WriteAnswer) (o : Answer (Unit {0})) → r ≡ write-answer-of o → (n : ℕ) → r ≡ Written n → o ≡ accepted tt n
+pub written-is : (r : WriteAnswer) (o : Answer (Unit {0})) → r ≡ write-answer-of o → (n : ℕ) → r ≡ Written n → o ≡ accepted tt n
 written-is r (accepted u m) e n f = let z : m ≡ n = cc in rw z refl
 written-is r (refused k p) e n f = let z : _≡_ {A = ℕ} 0 1 = cc in absurd (omega arith)
+
+pub refusal-is : (r : WriteAnswer) (o : Answer (Unit {0})) → r ≡ write-answer-of o → (q : Refusal) → r ≡ Refused q → o ≡ refused (q .number) (q .position)
+refusal-is r (accepted u n) e q f = let z : _≡_ {A = ℕ} 0 1 = cc in absurd (omega arith)
+refusal-is r (refused k p) e q f = let z : because k p ≡ q = cc in rw (sym z) refl
 
 -- every writer: by the first of its checks that fails
 module _ (w : Writing) (before after : List ℕ) (r : WriteAnswer) (call : Writes w before after r) where

@@ -1,0 +1,187 @@
+-- The size before writing: what every writer will answer; a body's refusals; records marked old. Assumes nothing.
+use mathlib.Core.Path.{_≡_, refl, sym, ap, _∙_}
+use mathlib.Core.Bool.{Bool, true, false}
+use mathlib.Core.Option.{Option, none, some}
+use mathlib.Core.Logic.{_⊎_, inl, inr}
+use mathlib.Core.List.{List, [], _∷_, _++_, List·Memᴰ}
+use Prim.Native.Nat.{ℕ, _+_, _≤_, _<_}
+use native.Mathlib.Omega.{arith}
+use lib.Dec.{leb, eqb}
+use lib.ListN.{length, length-append}
+use Rattle.format.specs.Read.{Answer, accepted, refused}
+use Rattle.format.specs.Fields.{Form, today, old, Pair, EncryptedDataKey, Fields}
+use Rattle.format.specs.Context.{section-in}
+use Rattle.format.specs.Body.{image}
+use Rattle.format.specs.Checks.{Check, check, first, each, count-checks, pair-checks, key-checks, pairs-checks, keys-checks, opening-checks, form-checks, body-checks}
+use Rattle.format.specs.Lent.{Writing, refusal-of, written-of, written, output-after, size-of, table-checks, BodyToWrite, fields-to-write, writing-header-body}
+use Rattle.format.specs.Demand3.{the-old, mark-by}
+use Rattle.format.specs.Size.{SizeLaw, size-refusals, marked, longer, SizeLaws}
+use Rattle.format.proofs.Tests.{nleb-is, is-leb, is-nleb, is-eqb}
+use Rattle.format.proofs.Firsts.{holds, split, first-stop, first-none, first-some}
+use Rattle.format.proofs.Members.{has, is-member, no-member}
+use Rattle.format.proofs.Writers.{of-accepted, of-refused, none-then, writer-law}
+use Rattle.format.proofs.Written.{same-images}
+
+-- every writer
+module _ (w : Writing) where
+  module _ (out : List ℕ) where
+    refused-then : (k : ℕ) → first (w .checks) ≡ some k → refusal-of w out ≡ some k
+    unfolding refusal-of
+    refused-then k e = first-some (w .checks) _ k e
+
+    short-then : first (w .checks) ≡ none → length out < length (w .image) → refusal-of w out ≡ some 28
+    unfolding refusal-of
+    short-then e h = first-none (w .checks) _ e ∙ first-stop 28 _ [] (nleb-is _ _ h)
+
+    -- where none of them applies, whether the output is long enough
+    abbrev Fits : Type 0
+    Fits = (length (w .image) ≤ length out) × (written w out ≡ accepted tt (length (w .image)))
+
+    abbrev Short : Type 0
+    Short = (length out < length (w .image)) × (written w out ≡ refused 28 0)
+
+    answers : (o : Option ℕ) → refusal-of w out ≡ o → written w out ≡ written-of o (w .image)
+    answers o e = ap (λ (x : Option ℕ). written-of x (w .image)) e
+
+    fits-or-not : first (w .checks) ≡ none → Fits ⊎ Short
+    fits-or-not e = go (leb (length (w .image)) (length out)) refl
+      where
+        go : (b : Bool) → leb (length (w .image)) (length out) ≡ b → Fits ⊎ Short
+        go true q = let h = is-leb _ _ q in inl (h, answers none (none-then w out e h))
+        go false q = let h = is-nleb _ _ q in inr (h, answers (some 28) (short-then e h))
+
+    refuses : (k p : ℕ) → size-of w ≡ refused k p → written w out ≡ refused k p
+    refuses k p e = let (f, z) = of-refused (w .image) (first (w .checks)) k p e in answers (some k) (refused-then k f) ∙ ap (refused k) (sym z)
+
+    is-short : (n : ℕ) → size-of w ≡ accepted tt n → written w out ≡ refused 28 0 → length out < n
+    is-short n e q = let (f, d) = of-accepted (w .image) (first (w .checks)) n e in go d (fits-or-not f)
+      where
+        go : n ≡ length (w .image) → Fits ⊎ Short → length out < n
+        go d (inl (h, a)) = let z : _≡_ {A = ℕ} 0 1 = cc in absurd (omega arith)
+        go d (inr (h, a)) = rw d h
+
+    short-is : (n : ℕ) → size-of w ≡ accepted tt n → length out < n → written w out ≡ refused 28 0
+    short-is n e h = let (f, d) = of-accepted (w .image) (first (w .checks)) n e in answers (some 28) (short-then f (rw d at h))
+
+    reports : (n : ℕ) → size-of w ≡ accepted tt n → n ≤ length out → written w out ≡ accepted tt n
+    reports n e h = let (f, d) = of-accepted (w .image) (first (w .checks)) n e in answers none (none-then w out f (rw d at h)) ∙ ap (accepted tt) (sym d)
+
+    refusal-given : (o : Option ℕ) → first (w .checks) ≡ o → (k p : ℕ) → written w out ≡ refused k p → (k ≡ 28 → ⊥) → written-of o (w .image) ≡ refused k p
+    refusal-given none e k p q other = go (fits-or-not e)
+      where
+        go : Fits ⊎ Short → written-of none (w .image) ≡ refused k p
+        go (inl (h, a)) = sym a ∙ q
+        go (inr (h, a)) = absurd (other (cc))
+    refusal-given (some j) e k p q other = sym (answers (some j) (refused-then j e)) ∙ q
+
+    length-given : (o : Option ℕ) → first (w .checks) ≡ o → (n : ℕ) → written w out ≡ accepted tt n → written-of o (w .image) ≡ accepted tt n
+    length-given none e n q = ap (accepted tt) (sym (of-accepted (w .image) (refusal-of w out) n q .1))
+    length-given (some j) e n q = sym (answers (some j) (refused-then j e)) ∙ q
+
+  pub size-law : SizeLaw w
+  size-law =
+      record {
+        refuses = λ k p e out. (let q = refuses out k p e in (q, writer-law w out .keeps k p q .1));
+        too-short = λ n e out. record { onward = is-short out n e; back = short-is out n e };
+        reports = λ n e out h. reports out n e h;
+        refusal-given = λ out k p q other. refusal-given out (first (w .checks)) refl k p q other;
+        length-given = λ out n q. length-given out (first (w .checks)) refl n q;
+      }
+
+-- the refusal that checks find is of a list
+record Numbered (ks : List ℕ) (cs : List Check) : Type 0 where
+  found : (k : ℕ) → first cs ≡ some k → has ks k ≡ true
+
+none-numbered : {ks : List ℕ} → Numbered ks []
+unfolding first
+none-numbered = record { found = λ k e. (let z : _≡_ {A = ℕ} 0 1 = cc in absurd (omega arith)) }
+
+then-numbered : {ks : List ℕ} {xs ys : List Check} → Numbered ks xs → Numbered ks ys → Numbered ks (xs ++ ys)
+then-numbered {ks} {xs} {ys} hx hy = record { found = λ k e. go k (first xs) refl e }
+  where
+    go : (k : ℕ) (o : Option ℕ) → first xs ≡ o → first (xs ++ ys) ≡ some k → has ks k ≡ true
+    go k none q e = hy .found k (sym (first-none xs ys q) ∙ e)
+    go k (some j) q e = hx .found k (q ∙ sym (first-some xs ys j q) ∙ e)
+
+check-numbered : {ks : List ℕ} {cs : List Check} (k : ℕ) {b : Bool} → has ks k ≡ true → Numbered ks cs → Numbered ks (check k b ∷ cs)
+unfolding first
+check-numbered {ks} {cs} k {b} h rest = record { found = λ j e. go j b e }
+  where
+    go : (j : ℕ) (b : Bool) → _≡_ {A = Option ℕ} (elim b as (λ x. Option ℕ) [ true ↦ first cs | false ↦ some k ]) (some j) → has ks j ≡ true
+    go j true e = rest .found j e
+    go j false e = let z : k ≡ j = cc in rw z at h
+
+each-numbered : {A : Type 0} {ks : List ℕ} (f : List A → A → List Check) → ((done : List A) (x : A) → Numbered ks (f done x)) → (done xs : List A) → Numbered ks (each f done xs)
+unfolding each
+each-numbered f h done [] = none-numbered
+each-numbered f h done (x ∷ xs) = then-numbered (h done x) (each-numbered f h (done ++ (x ∷ [])) xs)
+
+-- 26 and 27
+table-numbered : {cs : List Check} (k : ℕ) (text table : List ℕ) → Numbered size-refusals cs → Numbered size-refusals (table-checks k text table ++ cs)
+unfolding size-refusals table-checks
+table-numbered k text table h = check-numbered 26 refl (check-numbered 26 refl h)
+
+pairs-numbered : (ps : List Pair) → Numbered size-refusals (pairs-checks ps)
+unfolding size-refusals pairs-checks
+pairs-numbered ps =
+    check-numbered 27 refl (check-numbered 27 refl (then-numbered (each-numbered pair-checks (λ done p. check-numbered 10 refl (check-numbered 11 refl (check-numbered 12 refl none-numbered))) [] ps) (check-numbered 13 refl none-numbered)))
+
+keys-numbered : (ks : List EncryptedDataKey) → Numbered size-refusals (keys-checks ks)
+unfolding size-refusals keys-checks
+keys-numbered ks = check-numbered 27 refl (check-numbered 27 refl (each-numbered key-checks (λ done k. check-numbered 16 refl none-numbered) [] ks))
+
+body-numbered : (b : BodyToWrite) → Numbered size-refusals (writing-header-body b .checks)
+unfolding size-refusals writing-header-body body-checks
+body-numbered b =
+    let opening = check-numbered 3 refl (check-numbered 5 refl (check-numbered 6 refl (check-numbered 7 refl (check-numbered 24 refl none-numbered)))) in
+    let closing = check-numbered 17 refl (check-numbered 19 refl (check-numbered 25 refl (check-numbered 20 refl none-numbered))) in
+    let pairs = table-numbered 4 (b .text) (b .pairTable) (pairs-numbered (fields-to-write b .pairs)) in
+    let keys = table-numbered 6 (b .text) (b .keyTable) (keys-numbered (fields-to-write b .keys)) in
+    then-numbered opening (then-numbered pairs (check-numbered 33 refl (then-numbered keys closing)))
+
+listed : (b : BodyToWrite) (k p : ℕ) → size-of (writing-header-body b) ≡ refused k p → List·Memᴰ k size-refusals × (k ≡ 28 → ⊥) × (p ≡ 0)
+unfolding size-refusals
+listed b k p e =
+    let (f, z) = of-refused (writing-header-body b .image) (first (writing-header-body b .checks)) k p e in
+    let m = is-member size-refusals k (body-numbered b .found k f) in
+    (m, λ q. no-member size-refusals 28 refl (rw q at m), z)
+
+-- marks: where there is no pair, the two have the same checks, and the images differ by two bytes
+module _ (b : BodyToWrite) where
+  abbrev by-mark : Form → Writing
+  by-mark form = writing-header-body (marked form b)
+
+  same-checks : fields-to-write b .pairs ≡ [] → by-mark old .checks ≡ by-mark today .checks
+  unfolding writing-header-body fields-to-write body-checks
+  same-checks e = rw e refl
+
+  two-more : fields-to-write b .pairs ≡ [] → length (by-mark old .image) ≡ length (by-mark today .image) + 2
+  unfolding writing-header-body fields-to-write
+  two-more e =
+      let i = same-images (fields-to-write b) in
+      let m : mark-by the-old (fields-to-write b .pairs) ≡ old = rw e refl in
+      let t : length (image today (fields-to-write b)) ≡ length (i .front) + length (0x00 ∷ 0x00 ∷ i .back) = ap length (i .today-has e) ∙ length-append (i .front) (0x00 ∷ 0x00 ∷ i .back) in
+      let o : length (image old (fields-to-write b)) ≡ length (i .front) + length (0x00 ∷ 0x02 ∷ 0x00 ∷ 0x00 ∷ i .back) =
+      ap (λ (x : Form). length (image x (fields-to-write b))) (sym m) ∙ ap length (i .old-has e) ∙ length-append (i .front) (0x00 ∷ 0x02 ∷ 0x00 ∷ 0x00 ∷ i .back) in
+      omega (arith, t, o)
+
+  without-pairs : fields-to-write b .pairs ≡ [] → size-of (by-mark old) ≡ longer 2 (size-of (by-mark today))
+  without-pairs e = rw (same-checks e) (go (first (by-mark today .checks)))
+    where
+      go : (o : Option ℕ) → written-of o (by-mark old .image) ≡ longer 2 (written-of o (by-mark today .image))
+      go none = ap (accepted tt) (two-more e)
+      go (some k) = refl
+
+  no-pairs : (ps : List Pair) → eqb (length ps) 0 ≡ true → ps ≡ []
+  no-pairs [] e = refl
+  no-pairs (p ∷ ps) e = let z = is-eqb (length (p ∷ ps)) 0 e in absurd (omega (arith, z))
+
+  with-a-pair : (fields-to-write b .pairs ≡ [] → ⊥) → (n : ℕ) → size-of (by-mark old) ≡ accepted tt n → ⊥
+  unfolding writing-header-body fields-to-write body-checks
+  with-a-pair h n e =
+      let f = of-accepted (by-mark old .image) (first (by-mark old .checks)) n e .0 in
+      let pairs = table-checks 4 (b .text) (b .pairTable) ++ pairs-checks (fields-to-write b .pairs) in
+      h (no-pairs _ (split pairs _ (holds (by-mark old .checks) f .1 .1 .1 .1 .1) .1 .0))
+
+pub size-laws : SizeLaws
+size-laws = record { of-writers = size-law; listed = listed; old-without-pairs = without-pairs; old-with-a-pair = with-a-pair }
