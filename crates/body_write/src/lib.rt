@@ -1,4 +1,5 @@
-// Writes a header body. Everything is tested before anything is stored, so that a refusal leaves the output as it was.
+// Writes a header body, or tells before what it takes. The writer goes by what is told: everything is tested before anything is stored,
+// so that a refusal leaves the output as it was.
 mod closing;
 mod opening;
 mod versions;

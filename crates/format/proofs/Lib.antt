@@ -36,6 +36,7 @@ pub mod OneVersion
 pub mod Written
 pub mod Find
 pub mod Demand3
+pub mod Numbered
 pub mod Size
 pub mod Suites
 pub mod Sections

@@ -8,17 +8,17 @@ use Prim.Native.Nat.{ℕ, _+_, _≤_, _<_}
 use native.Mathlib.Omega.{arith}
 use lib.Dec.{leb, eqb}
 use lib.ListN.{length, length-append}
-use Rattle.format.specs.Read.{Answer, accepted, refused}
-use Rattle.format.specs.Fields.{Form, today, old, Pair, EncryptedDataKey, Fields}
-use Rattle.format.specs.Context.{section-in}
+use Rattle.format.specs.Read.{accepted, refused}
+use Rattle.format.specs.Fields.{Form, today, old, Pair, EncryptedDataKey}
 use Rattle.format.specs.Body.{image}
-use Rattle.format.specs.Checks.{Check, check, first, each, count-checks, pair-checks, key-checks, pairs-checks, keys-checks, opening-checks, form-checks, body-checks}
-use Rattle.format.specs.Lent.{Writing, refusal-of, written-of, written, output-after, size-of, table-checks, BodyToWrite, fields-to-write, writing-header-body}
+use Rattle.format.specs.Checks.{Check, first, pair-checks, key-checks, pairs-checks, keys-checks, body-checks}
+use Rattle.format.specs.Lent.{Writing, refusal-of, written-of, written, size-of, table-checks, BodyToWrite, fields-to-write, writing-header-body}
 use Rattle.format.specs.Demand3.{the-old, mark-by}
 use Rattle.format.specs.Size.{SizeLaw, size-refusals, marked, longer, SizeLaws}
 use Rattle.format.proofs.Tests.{nleb-is, is-leb, is-nleb, is-eqb}
 use Rattle.format.proofs.Firsts.{holds, split, first-stop, first-none, first-some}
-use Rattle.format.proofs.Members.{has, is-member, no-member}
+use Rattle.format.proofs.Members.{is-member, no-member}
+use Rattle.format.proofs.Numbered.{Numbered, none-numbered, then-numbered, check-numbered, each-numbered}
 use Rattle.format.proofs.Writers.{of-accepted, of-refused, none-then, writer-law}
 use Rattle.format.proofs.Written.{same-images}
 
@@ -88,35 +88,7 @@ module _ (w : Writing) where
         length-given = λ out n q. length-given out (first (w .checks)) refl n q;
       }
 
--- the refusal that checks find is of a list
-record Numbered (ks : List ℕ) (cs : List Check) : Type 0 where
-  found : (k : ℕ) → first cs ≡ some k → has ks k ≡ true
-
-none-numbered : {ks : List ℕ} → Numbered ks []
-unfolding first
-none-numbered = record { found = λ k e. (let z : _≡_ {A = ℕ} 0 1 = cc in absurd (omega arith)) }
-
-then-numbered : {ks : List ℕ} {xs ys : List Check} → Numbered ks xs → Numbered ks ys → Numbered ks (xs ++ ys)
-then-numbered {ks} {xs} {ys} hx hy = record { found = λ k e. go k (first xs) refl e }
-  where
-    go : (k : ℕ) (o : Option ℕ) → first xs ≡ o → first (xs ++ ys) ≡ some k → has ks k ≡ true
-    go k none q e = hy .found k (sym (first-none xs ys q) ∙ e)
-    go k (some j) q e = hx .found k (q ∙ sym (first-some xs ys j q) ∙ e)
-
-check-numbered : {ks : List ℕ} {cs : List Check} (k : ℕ) {b : Bool} → has ks k ≡ true → Numbered ks cs → Numbered ks (check k b ∷ cs)
-unfolding first
-check-numbered {ks} {cs} k {b} h rest = record { found = λ j e. go j b e }
-  where
-    go : (j : ℕ) (b : Bool) → _≡_ {A = Option ℕ} (elim b as (λ x. Option ℕ) [ true ↦ first cs | false ↦ some k ]) (some j) → has ks j ≡ true
-    go j true e = rest .found j e
-    go j false e = let z : k ≡ j = cc in rw z at h
-
-each-numbered : {A : Type 0} {ks : List ℕ} (f : List A → A → List Check) → ((done : List A) (x : A) → Numbered ks (f done x)) → (done xs : List A) → Numbered ks (each f done xs)
-unfolding each
-each-numbered f h done [] = none-numbered
-each-numbered f h done (x ∷ xs) = then-numbered (h done x) (each-numbered f h (done ++ (x ∷ [])) xs)
-
--- 26 and 27
+-- a body's refusals
 table-numbered : {cs : List Check} (k : ℕ) (text table : List ℕ) → Numbered size-refusals cs → Numbered size-refusals (table-checks k text table ++ cs)
 unfolding size-refusals table-checks
 table-numbered k text table h = check-numbered 26 refl (check-numbered 26 refl h)

@@ -1,14 +1,14 @@
 -- What every writer leaves: its image and its length, or all as it was. Assumes nothing.
-use mathlib.Core.Path.{_≡_, refl, sym, ap, _∙_}
+use mathlib.Core.Path.{_≡_, refl, ap}
 use mathlib.Core.Option.{Option, none, some}
 use mathlib.Core.List.{List, [], _∷_, _++_}
 use Prim.Native.Nat.{ℕ, _+_, _≤_}
 use native.Mathlib.Omega.{arith}
 use lib.Dec.{leb}
 use lib.ListN.{length, drop, length-append, length-drop}
-use Rattle.format.specs.Read.{Answer, accepted, refused}
+use Rattle.format.specs.Read.{accepted, refused}
 use Rattle.format.specs.Checks.{check, first}
-use Rattle.format.specs.Lent.{filled, Writing, refusal-of, written-of, written, output-of, output-after}
+use Rattle.format.specs.Lent.{filled, Writing, refusal-of, written-of, output-of, output-after}
 use Rattle.format.specs.Sections.{WriterLaw}
 use Rattle.format.proofs.Tests.{leb-is, is-leb}
 use Rattle.format.proofs.Firsts.{Holds, holds, unheld, split, join}

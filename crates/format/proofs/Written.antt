@@ -1,23 +1,22 @@
 -- Sentence 4: the two images, and what the body writer leaves. Assumes nothing.
 use mathlib.Core.Path.{_≡_, refl, sym, ap, _∙_}
 use mathlib.Core.Bool.{Bool, true, false, cond}
-use mathlib.Core.Option.{Option, none, some}
-use mathlib.Core.List.{List, [], _∷_, _++_, append-assoc, append-nil}
+use mathlib.Core.Option.{none}
+use mathlib.Core.List.{List, [], _∷_, _++_}
 use Prim.Native.Nat.{ℕ, _+_, _*_, _≤_, _<_}
 use native.Mathlib.Omega.{arith}
 use native.Mathlib.Nat.{zero-add}
-use lib.Dec.{leb, eqb}
-use lib.ListN.{length, drop, length-append, length-drop}
-use Rattle.format.specs.Read.{Answer, accepted, refused, operation}
-use Rattle.format.specs.Serialize.{Bytes, write-uint16, images, sum}
+use lib.Dec.{eqb}
+use lib.ListN.{length, drop}
+use Rattle.format.specs.Read.{accepted, operation}
+use Rattle.format.specs.Serialize.{write-uint16, images, sum}
 use Rattle.format.specs.Fields.{Form, today, old, Pair, Fields, HeaderBody}
 use Rattle.format.specs.Context.{tolerant, write-aad, write-aad-pairs, write-aad-section, write-expanded-aad-section, section-in}
 use Rattle.format.specs.Keys.{Max, within, write-encrypted-data-keys-section}
 use Rattle.format.specs.Body.{either, read-header-body, write-opening-of, write-closing-of, image}
-use Rattle.format.specs.Checks.{Check, check, first, opening-checks, closing-checks, pairs-checks, keys-checks, fits-form, form-checks, body-checks, Accepts}
-use Rattle.format.specs.Lent.{filled, table-checks, Writing, refusal-of, written-of, written, output-of, output-after, BodyToWrite, fields-to-write, writing-header-body}
+use Rattle.format.specs.Checks.{Check, first, opening-checks, closing-checks, pairs-checks, keys-checks, fits-form, form-checks, body-checks, Accepts}
+use Rattle.format.specs.Lent.{filled, table-checks, written, output-after, BodyToWrite, fields-to-write, writing-header-body}
 use Rattle.format.specs.Demand3.{Writer, todays, the-old, mark-by, Gives, Images, Sentence4}
-use Rattle.format.proofs.Tests.{leb-is, is-leb}
 use Rattle.format.proofs.Firsts.{Holds, holds, unheld, split, join}
 use Rattle.format.proofs.Accepts.{Good, good, accepts}
 use Rattle.format.proofs.Either.{writer-of, its-mark, all}

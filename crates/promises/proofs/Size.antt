@@ -1,5 +1,5 @@
 -- What the code tells of a size: the definition's law, by the two contracts. Assumes nothing.
-use Prim.Native.Nat.{ℕ, _≤_, _<_}
+use Prim.Native.Nat.{ℕ, _≤_}
 use mathlib.Core.Path.{_≡_, ap, _∙_}
 use lib.ListN.{length}
 use Rattle.format.specs.Read.{accepted, refused}
