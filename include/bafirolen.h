@@ -41,8 +41,9 @@
  * end there, the message is damaged, and is refused by 32 as soon as the section is there.
  * BAFIROLEN_REFUSED_PAIR_TABLE_TOO_SHORT, .._KEY_TABLE_TOO_SHORT, .._OUTPUT_TOO_SHORT: lend more, and call again. The answer does
  * not say how much: lend twice as much, or a table of BAFIROLEN_LARGEST_PAIR_TABLE or BAFIROLEN_LARGEST_KEY_TABLE numbers, or of
- * as many as bafirolen_frame_table_len gives for frames; the writers' comments say how long an output has to be. The two calls and
- * the listing have tables of their own; where these are too short, call bafirolen_read_header_body.
+ * as many as bafirolen_frame_table_len gives for frames. How long an output has to be, bafirolen_header_body_len says of a body
+ * before it is written, and of all else the writers' comments. The two calls and the listing have tables of their own; where these
+ * are too short, call bafirolen_read_header_body.
  * Every other: neither more bytes nor more room change it. From a reader: reject the message (4, 15 and 21 depend on what you
  * asked for). From a writer: correct the fields, or with 31 the required table; bafirolen_write_only_authenticated is a writer
  * with 31 and 28, and a reader with all others. BAFIROLEN_REFUSED_NOT_FOUND: the context is good and lacks this key.
@@ -69,7 +70,7 @@ extern "C" {
  * The version of these declarations, which grows by one with each change of them. bafirolen_version gives that of the archive:
  * where the two differ, the archive was made for another header file than this.
  */
-#define BAFIROLEN_VERSION 5
+#define BAFIROLEN_VERSION 6
 uint32_t bafirolen_version(void);
 
 /*
@@ -82,7 +83,7 @@ uint32_t bafirolen_version(void);
 #define BAFIROLEN_STACK_KEYS 1024                /* read and write a key section or an authentication record; read frames */
 #define BAFIROLEN_STACK_ONLY_AUTHENTICATED 57344 /* write the pairs of required keys, whose order lies on the stack */
 #define BAFIROLEN_STACK_LISTED 73728             /* the number, the position, the listing: their tables lie on the stack */
-#define BAFIROLEN_STACK_WRITE 143360             /* write a context section or a body */
+#define BAFIROLEN_STACK_WRITE 143360             /* write a context section or a body; the length of a body */
 
 /*
  * THE TWO CALLS. The header body at `start` in one number: 0 where it is accepted, else the refusal; and its position: the tail
@@ -214,7 +215,7 @@ BafirolenWritten bafirolen_write_header_auth_tag(uint32_t suite, const uint8_t *
 /*
  * Writes a header body. Pairs and keys have their places in one text; message ID and suite data are bytes of their own. A body
  * takes 34 bytes in version 1 and 76 in version 2; where it has a pair or is marked old, 2 more; 4 for each pair, 6 for each key,
- * and their parts.
+ * and their parts: bafirolen_header_body_len adds them up.
  * numbers.form: BAFIROLEN_TODAY, and an empty context is written 00 00; any other number: old, and it is written 00 02 00 00.
  * Refuses: 3 5 6 7 24 26 27 10 11 12 13 33 16 17 19 25 20 28.
  * 26 and 27 are tested of the pairs before 10, and of the keys after 33 and before 16; 33 only where the form is old.
@@ -224,6 +225,21 @@ BafirolenWritten bafirolen_write_header_body(BafirolenNumbers numbers, const uin
                                              const uint8_t *suite_data, size_t suite_data_len, const uint8_t *text,
                                              size_t text_len, const uint32_t *pairs, size_t pairs_len, const uint32_t *keys,
                                              size_t keys_len, uint8_t *out, size_t out_len);
+
+/*
+ * Says how long an output bafirolen_write_header_body needs, before one is lent: it takes what the writer takes but for the output,
+ * and `length` is how many bytes the writer would write, in the form that numbers.form says. It answers the first refusal other
+ * than 28 that the writer would, and whatever output the writer is then lent, it answers the same. Where there is none, the writer
+ * answers 28 exactly where the output is shorter than `length`, and otherwise accepts and gives that length. Keys may share their
+ * places, so that the length may be far above that of the text: up to 12.9 GB. Changes nothing.
+ * Refuses: 3 5 6 7 24 26 27 10 11 12 13 33 16 17 19 25 20.
+ * 26, 27 and 33 as for bafirolen_write_header_body.
+ * Stack: BAFIROLEN_STACK_WRITE.
+ */
+BafirolenWritten bafirolen_header_body_len(BafirolenNumbers numbers, const uint8_t *message_id, size_t message_id_len,
+                                           const uint8_t *suite_data, size_t suite_data_len, const uint8_t *text,
+                                           size_t text_len, const uint32_t *pairs, size_t pairs_len, const uint32_t *keys,
+                                           size_t keys_len);
 
 /*
  * Writes what a station authenticates without storing it: of the context section at `start`, read tolerantly, the pairs with the

@@ -106,6 +106,14 @@ static void write_body(void)
                                     out_len);
 }
 
+static void body_length(void)
+{
+    const size_t other = shape.version == 1 ? 0 : 32;
+    lent->answer.written =
+        bafirolen_header_body_len(numbers_of(shape), body.bytes, shape.version == 1 ? 16 : 32, body.bytes, other, body.bytes,
+                                  body.length, body.pair_table, 4 * shape.pairs, body.key_table, 6 * shape.keys);
+}
+
 /* every pair's key is required, so that every pair is sorted and written */
 static void write_only_authenticated(void)
 {

@@ -1,8 +1,8 @@
 /*
  * A host in C++: bafirolen.h is included twice, what is empty is lent as an empty vector has it; header H is read, its pairs and
- * keys are gone through, it is written again, as is one with an empty context in the old form, and what is authenticated of its
- * context is written alone; frames are read and gone through. Writes `compared N cases`; a difference is written to standard
- * error, and the exit status is 1.
+ * keys are gone through, it is measured and written again, as is one with an empty context in the old form, and what is
+ * authenticated of its context is written alone; frames are read and gone through. Writes `compared N cases`; a difference is
+ * written to standard error, and the exit status is 1.
  *
  *     rt staticlib bafirolen_c
  *     g++ -std=c++11 -O2 -Wall -Wextra -Wpedantic -Iinclude hosts/c/check.cc target/staticlib/libbafirolen_c.a -o target/check
@@ -69,7 +69,11 @@ void read_and_write_again()
     }
     same("the keys", parts, std::vector<std::string>{"p1", "a", "\xAA\xBB\xCC"});
     const Bytes id(H.begin() + long(b.messageIdStart), H.begin() + long(b.messageIdStart + b.messageIdLen)), none;
-    Bytes out(H.size());
+    const BafirolenWritten n =
+        bafirolen_header_body_len(b.numbers, id.data(), id.size(), none.data(), none.size(), H.data(), H.size(), pairs.data(),
+                                  pairs.size(), keys.data(), keys.size());
+    same("the length", n.number == 0 && n.position == 0 && n.length == H.size(), true);
+    Bytes out(n.length);
     const BafirolenWritten w =
         bafirolen_write_header_body(b.numbers, id.data(), id.size(), none.data(), none.size(), H.data(), H.size(), pairs.data(),
                                     pairs.size(), keys.data(), keys.size(), out.data(), out.size());
@@ -80,7 +84,7 @@ void read_and_write_again()
 /* H without its pair, in the old form: the tables are exact, and the one of pairs is empty */
 void old_form_again()
 {
-    Bytes old(H.begin(), H.begin() + 20), out(48, 0xEE);
+    Bytes old(H.begin(), H.begin() + 20);
     const Bytes empty = {0, 2, 0, 0}, none;
     old.insert(old.end(), empty.begin(), empty.end());
     old.insert(old.end(), H.begin() + 34, H.end());
@@ -91,6 +95,11 @@ void old_form_again()
     const BafirolenBody b = read(old, pairs, keys, BAFIROLEN_TOLERANT);
     same("the old form", b.number == 0 && b.tail == 48 && b.pairCount == 0 && b.keyCount == 1, true);
     same("its mark", b.numbers.form, uint32_t(BAFIROLEN_OLD));
+    const BafirolenWritten n =
+        bafirolen_header_body_len(b.numbers, &old[b.messageIdStart], b.messageIdLen, none.data(), none.size(), old.data(),
+                                  old.size(), pairs.data(), pairs.size(), keys.data(), keys.size());
+    same("the old form's length", n.number == 0 && n.position == 0 && n.length == 48, true);
+    Bytes out(n.length);
     const BafirolenWritten w =
         bafirolen_write_header_body(b.numbers, &old[b.messageIdStart], b.messageIdLen, none.data(), none.size(), old.data(),
                                     old.size(), pairs.data(), pairs.size(), keys.data(), keys.size(), out.data(), out.size());

@@ -27,6 +27,16 @@ static struct read read_at(const uint8_t *m, size_t n, uint64_t start, uint32_t 
     return r;
 }
 
+/* how long what was read is, marked so */
+static BafirolenWritten length_marked(struct read r, uint32_t form)
+{
+    const BafirolenBody b = r.body;
+    BafirolenNumbers n = b.numbers;
+    n.form = form;
+    return bafirolen_header_body_len(n, r.message + b.messageIdStart, b.messageIdLen, r.message + b.suiteDataStart,
+                                     b.suiteDataLen, r.message, r.length, pairs, 4 * b.pairCount, keys, 6 * b.keyCount);
+}
+
 /* writes what was read, marked so */
 static BafirolenWritten write_marked(struct read r, uint32_t form, size_t room)
 {
@@ -44,6 +54,7 @@ static void written_to(const char *what, struct read r, uint32_t form, const uin
 {
     const size_t rooms[3] = {length, BYTES, length - 1};
     size_t i;
+    written_is(what, length_marked(r, form), BAFIROLEN_ACCEPTED, length);
     for (i = 0; i < COUNT(rooms); i++) {
         const size_t n = rooms[i] < length ? 0 : length;
         const BafirolenWritten w = write_marked(r, form, rooms[i]);
@@ -111,10 +122,15 @@ struct request {
 
 static const struct request sound = {{1, 0x80, 0x0178, 2, 12, 4096, BAFIROLEN_TODAY}, 16, 0, 58, H_pairs, H_keys, 4, 6};
 
+/* by the length as well, but for an output that is too short: that has no output, and gives the 58 of H */
 static void refused_by(const char *what, struct request r, uint64_t number)
 {
+    const int too_short = number == BAFIROLEN_REFUSED_OUTPUT_TOO_SHORT;
     BafirolenWritten w;
     fresh();
+    w = bafirolen_header_body_len(r.numbers, text + 4, r.id, text, r.data, text, sizeof text, r.pairs, r.pairs_len, r.keys,
+                                  r.keys_len);
+    written_is(what, w, too_short ? BAFIROLEN_ACCEPTED : number, too_short ? 58 : 0);
     w = bafirolen_write_header_body(r.numbers, text + 4, r.id, text, r.data, text, sizeof text, r.pairs, r.pairs_len, r.keys,
                                     r.keys_len, out, r.room);
     written_is(what, w, number, 0);

@@ -1,7 +1,7 @@
 /*
  * A host in C: calls every exported operation that writes but one, and the reader of authentication records beside its writer; as
- * check_readers.c does for what reads. check_only_authenticated.c has the one that reads a message and writes, and check_forms.c
- * bodies of both forms.
+ * check_readers.c does for what reads. A body is measured before it is written. check_only_authenticated.c has the one that reads a
+ * message and writes, check_forms.c bodies of both forms, and check_lengths.c more of how long they are.
  */
 #include "compare.h"
 
@@ -28,10 +28,13 @@ static void write_sections(void)
     output_is("the key section", H + 34, 14);
 }
 
-/* the numbers with one of them changed: what is refused, or 0 */
+/* the numbers with one of them changed: what is refused, or 0; the length knows nothing of an output */
 static void write_with(const char *what, BafirolenNumbers n, size_t id, size_t room, uint64_t number)
 {
+    const int accepted = number == BAFIROLEN_ACCEPTED || number == BAFIROLEN_REFUSED_OUTPUT_TOO_SHORT;
     BafirolenWritten w;
+    w = bafirolen_header_body_len(n, H + 4, id, H, 0, H, 58, H_pairs, 4, H_keys, 6);
+    written_is(what, w, accepted ? BAFIROLEN_ACCEPTED : number, accepted ? 58 : 0);
     fresh();
     w = bafirolen_write_header_body(n, H + 4, id, H, 0, H, 58, H_pairs, 4, H_keys, 6, out, room);
     written_is(what, w, number, number == 0 ? 58 : 0);
@@ -89,6 +92,8 @@ static void refuse_version_2(void)
     BafirolenWritten w;
     size_t i;
     for (i = 0; i < COUNT(rows); i++) {
+        w = bafirolen_header_body_len(rows[i].numbers, H, rows[i].id, H, rows[i].data, H, 58, H_pairs, 4, H_keys, 6);
+        written_is(rows[i].what, w, rows[i].number, 0);
         fresh();
         w = bafirolen_write_header_body(rows[i].numbers, H, rows[i].id, H, rows[i].data, H, 58, H_pairs, 4, H_keys, 6, out,
                                         BYTES);
@@ -105,6 +110,8 @@ static void write_version_2(void)
     static const uint32_t V2_pairs[4] = {41, 4, 47, 2};
     BafirolenWritten w;
     BafirolenBody b;
+    w = bafirolen_header_body_len(n, H, 32, H + 20, 32, H, 58, H_pairs, 4, H_keys, 0);
+    written_is("the length of version 2", w, 0, 88);
     fresh();
     w = bafirolen_write_header_body(n, H, 32, H + 20, 32, H, 58, H_pairs, 4, H_keys, 0, out, BYTES);
     written_is("version 2", w, 0, 88);

@@ -7,9 +7,7 @@
  *     gcc -std=c99 -O2 -Wall -Wextra -Iinclude hosts/c/exact.c target/staticlib/libbafirolen_c.a -o target/exact_c
  *     valgrind --error-exitcode=1 target/exact_c
  */
-#include "compare.h"
-
-#include <stdlib.h>
+#include "lending.h"
 
 /* a header of version 2: two pairs, of which one key begins the other, and two equal keys with an empty part */
 static const uint8_t V2[108] = {
@@ -21,48 +19,6 @@ static const uint8_t V2[108] = {
     0x01, 0x00, 0x00, 0x00, 0x00,
     0x40, 0x41, 0x42, 0x43, 0x44, 0x45, 0x46, 0x47, 0x48, 0x49, 0x4A, 0x4B, 0x4C, 0x4D, 0x4E, 0x4F,
     0x50, 0x51, 0x52, 0x53, 0x54, 0x55, 0x56, 0x57, 0x58, 0x59, 0x5A, 0x5B, 0x5C, 0x5D, 0x5E, 0x5F};
-
-/* allocations of exactly the bytes that are lent; of what is lent to be read, where it was copied from */
-static struct {
-    void *copy;
-    const void *read_only;
-    size_t n;
-} lent[8];
-static size_t lent_count;
-
-/* to be changed */
-static void *lend(const void *bytes, size_t n)
-{
-    void *copy = malloc(n);
-    if (copy == NULL || lent_count == COUNT(lent)) {
-        abort();
-    }
-    memcpy(copy, bytes, n);
-    lent[lent_count].copy = copy;
-    lent[lent_count].read_only = NULL;
-    lent[lent_count++].n = n;
-    return copy;
-}
-
-/* to be read: the bytes stay as they are until let_go compares them */
-static const void *lend_const(const void *bytes, size_t n)
-{
-    const void *copy = lend(bytes, n);
-    lent[lent_count - 1].read_only = bytes;
-    return copy;
-}
-
-/* what was lent to be read is the same; all is freed */
-static void let_go(void)
-{
-    while (lent_count > 0) {
-        lent_count--;
-        if (lent[lent_count].read_only != NULL) {
-            same_bytes("what is lent to be read", lent[lent_count].copy, lent[lent_count].read_only, lent[lent_count].n);
-        }
-        free(lent[lent_count].copy);
-    }
-}
 
 /* the same body by exact buffers: message of n bytes, tables of np and nk numbers */
 static void read_body(const uint8_t *m, size_t n, uint32_t which, uint32_t mode, size_t np, size_t nk)
@@ -212,7 +168,7 @@ static void holds(const char *what, BafirolenWritten w, uint8_t *o, size_t room,
     memset(o, KEPT, room);
 }
 
-/* a header that was read, written again at every room up to a few bytes more than its length */
+/* a header that was read, measured and written again at every room up to a few bytes more than its length */
 static void write_again(const uint8_t *m, size_t n)
 {
     BafirolenBody b;
@@ -232,8 +188,11 @@ static void write_again(const uint8_t *m, size_t n)
         data = lend_const(m + b.suiteDataStart, b.suiteDataLen);
         p = lend_const(pairs, 16 * b.pairCount);
         k = lend_const(keys, 24 * b.keyCount);
+        w = bafirolen_header_body_len(b.numbers, id, b.messageIdLen, data, b.suiteDataLen, text, n, p, 4 * b.pairCount, k,
+                                      6 * b.keyCount);
+        written_is("the length of a header", w, 0, n);
         w = bafirolen_write_header_body(b.numbers, id, b.messageIdLen, data, b.suiteDataLen, text, n, p, 4 * b.pairCount, k,
-                                     6 * b.keyCount, o, room);
+                                        6 * b.keyCount, o, room);
         holds("a header", w, o, room, m, n);
         let_go();
     }

@@ -1,10 +1,13 @@
 /*
- * Builds the fields of a header, writes it, reads it back, compares, and only then files it.
+ * Builds the fields of a header, asks how long it is, writes it into just so many bytes, reads it back, compares, and only then
+ * files it.
  *
  *     gcc -std=c99 -O2 -Wall -Wextra -Iinclude hosts/c/file_header.c target/staticlib/libbafirolen_c.a -o target/file_header
  *     target/file_header FILE
  */
 #include "example.h"
+
+#include <stdlib.h>
 
 static const char program[] = "file_header";
 
@@ -43,9 +46,43 @@ static int reads_back(const uint8_t *header, size_t length)
            && b.pairCount == 1 && b.keyCount == 1 && same_parts(header, p, pairs, 4) && same_parts(header, k, keys, 6);
 }
 
+/* how long the header is; version 1 has no suite data */
+static BafirolenWritten measured(void)
+{
+    return bafirolen_header_body_len(numbers(), id, sizeof id, NULL, 0, text, sizeof text, pairs, 4, keys, 6);
+}
+
+static BafirolenWritten written(uint8_t *out, size_t room)
+{
+    return bafirolen_write_header_body(numbers(), id, sizeof id, NULL, 0, text, sizeof text, pairs, 4, keys, 6, out, room);
+}
+
+/* The output is as long as the header, so that it is never too short. */
+static int write_and_file(size_t length, const char *path)
+{
+    uint8_t *out = malloc(length);
+    int status = 1;
+    BafirolenWritten w;
+    if (out == NULL) {
+        return file_failed(program, "memory");
+    }
+    w = written(out, length);
+    if (w.number != BAFIROLEN_ACCEPTED) {
+        status = refused(program, w.number, w.position);
+    } else if (w.length != length || !reads_back(out, length)) {
+        fprintf(stderr, "%s: what was read back is not what was written\n", program);
+    } else if (!filed(path, out, length)) {
+        status = file_failed(program, path);
+    } else {
+        printf("filed %" PRIu64 " bytes\n", w.length);
+        status = printed(program);
+    }
+    free(out);
+    return status;
+}
+
 int main(int argc, char **argv)
 {
-    uint8_t out[1024];
     BafirolenWritten w;
     if (other_version(program)) {
         return 1;
@@ -53,18 +90,6 @@ int main(int argc, char **argv)
     if (argc != 2) {
         return usage("file_header FILE");
     }
-    /* version 1 has no suite data */
-    w = bafirolen_write_header_body(numbers(), id, sizeof id, NULL, 0, text, sizeof text, pairs, 4, keys, 6, out, sizeof out);
-    if (w.number != BAFIROLEN_ACCEPTED) {
-        return refused(program, w.number, w.position);
-    }
-    if (!reads_back(out, (size_t)w.length)) {
-        fprintf(stderr, "%s: what was read back is not what was written\n", program);
-        return 1;
-    }
-    if (!filed(argv[1], out, (size_t)w.length)) {
-        return file_failed(program, argv[1]);
-    }
-    printf("filed %" PRIu64 " bytes\n", w.length);
-    return printed(program);
+    w = measured();
+    return w.number == BAFIROLEN_ACCEPTED ? write_and_file((size_t)w.length, argv[1]) : refused(program, w.number, w.position);
 }

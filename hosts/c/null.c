@@ -8,32 +8,10 @@
  *     gcc -std=c99 -O2 -Wall -Wextra -Iinclude hosts/c/null.c target/staticlib/libbafirolen_c.a -o target/null
  *     valgrind --error-exitcode=1 target/null
  */
-#include "compare.h"
+#include "hollow.h"
 
 #include <stdlib.h>
 
-/* a header without pairs and keys, in today's form and in the old one; and one of version 2 whose pair and key have empty parts
- * only, its ID and suite data all 00 */
-static const uint8_t BARE[34] = {0x01, 0x80, 0x01, 0x78, 0, 1, 2, 3, 4, 5, 6, 7, 8, 9, 10, 11, 12, 13, 14, 15,
-                                 0, 0, 0, 0, 0x02, 0, 0, 0, 0, 0x0C, 0, 0, 0x10, 0};
-static const uint8_t OLD[36] = {0x01, 0x80, 0x01, 0x78, 0, 1, 2, 3, 4, 5, 6, 7, 8, 9, 10, 11, 12, 13, 14, 15,
-                                0, 2, 0, 0, 0, 0, 0x02, 0, 0, 0, 0, 0x0C, 0, 0, 0x10, 0};
-static const uint8_t HOLLOW[88] = {[0] = 0x02, [1] = 0x05, [2] = 0x78, [36] = 6, [38] = 1, [44] = 1, [51] = 0x02, [54] = 0x10};
-static const uint32_t HOLLOW_pairs[4] = {41, 0, 43, 0}, HOLLOW_keys[6] = {47, 0, 49, 0, 51, 0};
-
-/* one of the headers, the places of its sections, its fields, and a key to find */
-static const struct header {
-    const uint8_t *bytes;
-    size_t length;
-    uint64_t context, keys;
-    BafirolenNumbers numbers;
-    size_t id, id_length, data, data_length, pair_numbers, key_numbers;
-    const uint32_t *pair_table, *key_table;
-    const char *key;
-} headers[] = {{H, 58, 20, 34, {1, 0x80, 0x0178, 2, 12, 4096, 0}, 4, 16, 0, 0, 4, 6, H_pairs, H_keys, "lang"},
-               {BARE, 34, 20, 22, {1, 0x80, 0x0178, 2, 12, 4096, 0}, 4, 16, 0, 0, 0, 0, H_pairs, H_keys, "lang"},
-               {OLD, 36, 20, 24, {1, 0x80, 0x0178, 2, 12, 4096, 1}, 4, 16, 0, 0, 0, 0, H_pairs, H_keys, "lang"},
-               {HOLLOW, 88, 35, 43, {2, 0, 0x0578, 2, 0, 4096, 0}, 3, 32, 56, 32, 4, 6, HOLLOW_pairs, HOLLOW_keys, ""}};
 static const struct header *h;
 
 /* which of a call's lent parts are empty, in their order, and the pointer that those have */
@@ -128,6 +106,13 @@ static void write_body(void)
         LENT(1, h->pair_table, h->pair_numbers), LENT(5, h->key_table, h->key_numbers), LENT(2, out, BYTES));
 }
 
+static void body_length(void)
+{
+    answer.record.written = bafirolen_header_body_len(
+        h->numbers, LENT(2, h->bytes + h->id, h->id_length), LENT(3, h->bytes + h->data, h->data_length), MESSAGE,
+        LENT(1, h->pair_table, h->pair_numbers), LENT(4, h->key_table, h->key_numbers));
+}
+
 /* the key to find is all that is required */
 static void write_only_authenticated(void)
 {
@@ -154,6 +139,7 @@ static const struct export {
                {"bafirolen_write_encrypted_data_keys_section", write_keys, 3},
                {"bafirolen_write_header_auth_tag", write_record, 3},
                {"bafirolen_write_header_body", write_body, 6},
+               {"bafirolen_header_body_len", body_length, 5},
                {"bafirolen_write_only_authenticated", write_only_authenticated, 4}};
 
 /* the call with those parts empty by that pointer: its answer, and what it was lent afterwards */
@@ -240,10 +226,16 @@ static void writers(void)
     written_is("a listing of no message", bafirolen_write_listing(NULL, 0, out, BYTES), 0, 12);
     output_is("a listing of no message", (const uint8_t *)"refused\t2\t1\n", 12);
     fresh();
+    w = bafirolen_header_body_len(n, BARE + 4, 16, NULL, 0, NULL, 0, NULL, 0, NULL, 0);
+    written_is("the length of a bare header", w, 0, 34);
     w = bafirolen_write_header_body(n, BARE + 4, 16, NULL, 0, NULL, 0, NULL, 0, NULL, 0, out, BYTES);
     written_is("a bare header", w, 0, 34);
     output_is("a bare header", BARE, 34);
+    w = bafirolen_header_body_len(n, NULL, 0, NULL, 0, NULL, 0, NULL, 0, NULL, 0);
+    written_is("the length without an ID", w, BAFIROLEN_REFUSED_ID_LENGTH, 0);
     n.form = BAFIROLEN_OLD;
+    w = bafirolen_header_body_len(n, OLD + 4, 16, NULL, 0, NULL, 0, NULL, 0, NULL, 0);
+    written_is("the length of a bare header in the old form", w, 0, 36);
     fresh();
     w = bafirolen_write_header_body(n, OLD + 4, 16, NULL, 0, NULL, 0, NULL, 0, NULL, 0, out, BYTES);
     written_is("a bare header in the old form", w, 0, 36);

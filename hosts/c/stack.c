@@ -46,7 +46,8 @@ static struct export {
                {"bafirolen_header_position", position, BAFIROLEN_STACK_LISTED, 0},
                {"bafirolen_write_listing", listing, BAFIROLEN_STACK_LISTED, 0},
                {"bafirolen_write_aad_section", write_context, BAFIROLEN_STACK_WRITE, 0},
-               {"bafirolen_write_header_body", write_body, BAFIROLEN_STACK_WRITE, 0}};
+               {"bafirolen_write_header_body", write_body, BAFIROLEN_STACK_WRITE, 0},
+               {"bafirolen_header_body_len", body_length, BAFIROLEN_STACK_WRITE, 0}};
 
 /* the stack's lowest byte, above the guard; and what is written where a call reaches the guard */
 static uint8_t *lowest;
@@ -120,6 +121,9 @@ static void accepted(const struct export *e)
     const int finds = e->call == find || e->call == copy;
     if (shape.fault == NO_FAULT && !bare && !(finds && (shape.pairs == 0 || find_key == absent))) {
         same(e->name, at_the_end.answer.number, BAFIROLEN_ACCEPTED);
+        if (e->call == write_body || e->call == body_length) {
+            same(e->name, at_the_end.answer.written.length, body.length);
+        }
     }
 }
 

@@ -31,7 +31,7 @@ pub use records::{
 
 /// The declarations here are those of an archive whose [`bafirolen_version`]
 /// answers this.
-pub const VERSION: u32 = 5;
+pub const VERSION: u32 = 6;
 
 extern "C" {
     /// Which declarations the archive was made for.
@@ -185,6 +185,22 @@ extern "C" {
         keys_len: usize,
         out: *mut u8,
         out_len: usize,
+    ) -> BafirolenWritten;
+
+    /// The length of the body that [`bafirolen_write_header_body`] would write,
+    /// or the first of its refusals but 28. Nothing is changed.
+    pub fn bafirolen_header_body_len(
+        numbers: BafirolenNumbers,
+        message_id: *const u8,
+        message_id_len: usize,
+        suite_data: *const u8,
+        suite_data_len: usize,
+        text: *const u8,
+        text_len: usize,
+        pairs: *const u32,
+        pairs_len: usize,
+        keys: *const u32,
+        keys_len: usize,
     ) -> BafirolenWritten;
 
     /// Writes, of the context section at `start`, read tolerantly, the pairs

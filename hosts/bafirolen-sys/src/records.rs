@@ -100,7 +100,7 @@ pub struct BafirolenPlace {
     pub len: u64,
 }
 
-/// What was written or copied.
+/// What was written or copied, or would be written.
 #[repr(C)]
 #[derive(Clone, Copy, Debug, PartialEq, Eq)]
 #[must_use]

@@ -5,7 +5,7 @@
 
 mod common;
 
-use bafirolen::{read_header_body, write_header_body, Body, Draft, Key, Numbers, Pair, Request};
+use bafirolen::{header_body_to_vec, read_header_body, Body, Draft, Key, Numbers, Pair, Request};
 use common::{ended, print, usage};
 use std::error::Error;
 use std::ffi::OsString;
@@ -53,18 +53,17 @@ fn run(path: &Path) -> Result<(), Box<dyn Error>> {
         lend(&mut text, &mut keys, &parts);
     }
     let draft = Draft::new(NUMBERS, &MESSAGE_ID).with_tables(&text, &pairs, &keys);
-    let mut out = [0; 1_024];
-    let length = write_header_body(&draft, &mut out)?;
-    let header = &out[..length];
+    // Just as long as what is written.
+    let header = header_body_to_vec(&draft)?;
 
     let (mut read_pairs, mut read_keys) = (vec![0; pairs.len()], vec![0; keys.len()]);
     let request = Request::default();
-    let body = read_header_body(header, 0, request, &mut read_pairs, &mut read_keys)?;
-    if !same(header, &body) {
+    let body = read_header_body(&header, 0, request, &mut read_pairs, &mut read_keys)?;
+    if !same(&header, &body) {
         return Err("what was read back is not what was written".into());
     }
-    fs::write(path, header).map_err(|error| format!("{}: {error}", path.display()))?;
-    Ok(print(format!("filed {length} bytes\n").as_bytes())?)
+    fs::write(path, &header).map_err(|error| format!("{}: {error}", path.display()))?;
+    Ok(print(format!("filed {} bytes\n", header.len()).as_bytes())?)
 }
 
 fn main() -> ExitCode {

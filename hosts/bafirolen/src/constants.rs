@@ -55,7 +55,8 @@ pub const STACK_ONLY_AUTHENTICATED: usize = 57_344;
 /// [`write_listing`](crate::write_listing), whose tables lie there.
 pub const STACK_LISTED: usize = 73_728;
 
-/// Bytes of stack to write a context or a body.
+/// Bytes of stack to write a context or a body, and for
+/// [`header_body_len`](crate::header_body_len).
 pub const STACK_WRITE: usize = 143_360;
 
 /// The type of a message, stored in version 1 only.

@@ -107,7 +107,7 @@ impl Numbers {
 ///
 /// A body takes 34 bytes in version 1 and 76 in version 2; where it has a pair
 /// or is marked [`Old`](Form::Old), 2 more; 4 for each pair, 6 for each key, and
-/// their parts.
+/// their parts. [`header_body_len`](crate::header_body_len) adds them up.
 ///
 /// ```
 /// use bafirolen::{Draft, Form, Numbers, NON_FRAMED};

@@ -9,14 +9,15 @@
 //!
 //! # Lending
 //!
-//! No function allocates, and none keeps anything. A reader takes a message
-//! and the place where it starts, and fills lent tables of numbers with the
-//! places of what it read: [`NUMBERS_PER_PAIR`] numbers for each pair of the
-//! encryption context, [`NUMBERS_PER_KEY`] for each encrypted data key,
-//! [`NUMBERS_PER_FRAME`] for each frame. Its answer borrows both, and gives the
-//! pairs, keys and frames as parts of the message.
+//! No function but [`header_body_to_vec`] allocates, and none keeps anything.
+//! A reader takes a message and the place where it starts, and fills lent
+//! tables of numbers with the places of what it read: [`NUMBERS_PER_PAIR`]
+//! numbers for each pair of the encryption context, [`NUMBERS_PER_KEY`] for each
+//! encrypted data key, [`NUMBERS_PER_FRAME`] for each frame. Its answer borrows
+//! both, and gives the pairs, keys and frames as parts of the message.
 //! A writer takes such tables with places in a lent text, and fills a lent
-//! output from its first byte. What is lent keeps its entries beyond those
+//! output from its first byte; how long an output a body takes,
+//! [`header_body_len`] says before. What is lent keeps its entries beyond those
 //! filled, and on a refusal all of them.
 //!
 //! Tables of [`LARGEST_PAIR_TABLE`] and [`LARGEST_KEY_TABLE`] numbers (256 KiB
@@ -59,7 +60,7 @@
 //! # Writing
 //!
 //! ```
-//! use bafirolen::{write_header_body, Draft, Numbers, FRAMED};
+//! use bafirolen::{header_body_len, write_header_body, Draft, Numbers, FRAMED};
 //!
 //! # fn main() -> Result<(), bafirolen::Refusal> {
 //! let text = b"langcyp1a\xAA\xBB\xCC";
@@ -68,10 +69,13 @@
 //! let message_id = [0x11; 16];
 //! let draft = Draft::new(Numbers::version_1(0x0178, FRAMED, 4_096), &message_id)
 //!     .with_tables(text, &pairs, &keys);
-//! let mut out = [0; 256];
-//! let length = write_header_body(&draft, &mut out)?;
+//! let length = header_body_len(&draft)?;
 //! assert_eq!(length, 58);
-//! assert_eq!(bafirolen::header_number(&out[..length], 0), 0);
+//! let mut out = vec![0; length];
+//! write_header_body(&draft, &mut out)?;
+//! assert_eq!(bafirolen::header_number(&out, 0), 0);
+//! // The same in one call.
+//! assert_eq!(bafirolen::header_body_to_vec(&draft)?, out);
 //! # Ok(())
 //! # }
 //! ```
@@ -88,7 +92,8 @@
 //! - [`Remedy::Wait`] (2): the message breaks off. Fetch until it has at least
 //!   that many bytes, and ask again; if no more will come, reject it.
 //! - [`Remedy::LendMore`] (22, 23, 28): a table or the output is too short.
-//!   Lend a longer one, and ask again.
+//!   Lend a longer one, and ask again. No body is refused so whose output has
+//!   the length that [`header_body_len`] gave.
 //! - [`Remedy::Reject`] (all others): no bytes and no room change the answer.
 //!
 //! What is accepted borrows the message, so a message that grows is asked
@@ -146,13 +151,19 @@
 //! [`STACK_ONLY_AUTHENTICATED`], [`STACK_LISTED`] or [`STACK_WRITE`] bytes of
 //! its thread's stack: 1 KiB to 140 KiB.
 //!
-//! The archive holds x86-64 code for Linux. The crate uses `core` alone, and
-//! needs Rust 1.87 or later.
+//! The archive holds x86-64 code for Linux. The crate needs Rust 1.87 or later.
+//! It uses `core`, and with its feature `alloc`, which is on by default, the
+//! crate `alloc` for [`header_body_to_vec`], which is all that the feature adds.
+//! Without default features `core` is all, and no allocator is needed.
 #![no_std]
 #![deny(missing_docs)]
 
+#[cfg(feature = "alloc")]
+extern crate alloc;
+
 mod auth;
 mod body;
+mod body_len;
 mod constants;
 mod draft;
 mod finding;
@@ -171,6 +182,9 @@ mod writes;
 pub use auth::{read_header_auth_tag, write_header_auth_tag, AuthRecord};
 pub use bafirolen_sys::VERSION;
 pub use body::{read_header_body, Body};
+pub use body_len::header_body_len;
+#[cfg(feature = "alloc")]
+pub use body_len::header_body_to_vec;
 pub use constants::*;
 pub use draft::{Draft, Numbers};
 pub use finding::{copy_value, find_bytes, find_part, find_value};

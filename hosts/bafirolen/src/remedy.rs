@@ -40,7 +40,8 @@ pub enum Remedy {
     /// Tables of [`LARGEST_PAIR_TABLE`](crate::LARGEST_PAIR_TABLE) and
     /// [`LARGEST_KEY_TABLE`](crate::LARGEST_KEY_TABLE) numbers always suffice,
     /// and for frames as many as [`frame_table_len`](crate::frame_table_len)
-    /// says.
+    /// says. For a body [`header_body_len`](crate::header_body_len) says exactly
+    /// how long an output is wanted.
     LendMore,
     /// All others: the request is refused whatever more is fetched or lent. A
     /// reader's caller rejects the message (4, 15 and 21 depend on what was

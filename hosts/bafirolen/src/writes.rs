@@ -3,7 +3,8 @@
 use crate::{Draft, Refusal};
 use bafirolen_sys::BafirolenWritten;
 
-/// The length of what was written, which fits the output.
+/// The length of what was written, or would be: a `usize` of this platform has
+/// as many bits.
 #[inline]
 pub(crate) fn length(record: BafirolenWritten) -> Result<usize, Refusal> {
     Refusal::test(record.number, record.position)?;
@@ -73,7 +74,8 @@ pub fn write_encrypted_data_keys_section(
 }
 
 /// Writes the body of a draft to the front of `out`, an empty context in the
-/// draft's form; answers its length.
+/// draft's form; answers its length, which
+/// [`header_body_len`](crate::header_body_len) gives before.
 ///
 /// # Errors
 ///

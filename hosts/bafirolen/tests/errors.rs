@@ -1,14 +1,15 @@
 //! The functions' lists of refusals under 'Errors' are those that the
 //! comparisons hold each operation to, in the documents' order of tests.
 //! (`copy_value` and `find_bytes` refer to `find_value` for theirs, and the
-//! first adds 28.)
+//! first adds 28; `header_body_to_vec` refers to `header_body_len`.)
 
 use bafirolen::Refusal;
 use report::{assert_said, LISTED};
 
-const SOURCES: [&str; 8] = [
+const SOURCES: [&str; 9] = [
     include_str!("../src/auth.rs"),
     include_str!("../src/body.rs"),
+    include_str!("../src/body_len.rs"),
     include_str!("../src/finding.rs"),
     include_str!("../src/frames.rs"),
     include_str!("../src/host.rs"),
@@ -18,7 +19,7 @@ const SOURCES: [&str; 8] = [
 ];
 
 /// A function, and what its operations in the comparisons begin with.
-const ROWS: [(&str, &str); 12] = [
+const ROWS: [(&str, &str); 13] = [
     ("read_aad_section", "read section"),
     ("read_encrypted_data_keys_section", "read keys"),
     ("read_header_body", "read body"),
@@ -28,6 +29,7 @@ const ROWS: [(&str, &str); 12] = [
     ("write_aad_section", "write section"),
     ("write_encrypted_data_keys_section", "write keys"),
     ("write_header_body", "write body"),
+    ("header_body_len", "body length"),
     ("write_header_auth_tag", "write auth"),
     ("write_listing", "write listing"),
     ("write_only_authenticated", "write only authenticated"),
@@ -78,13 +80,17 @@ fn are_those_of_the_operations() {
     }
 }
 
-/// What stands before the first number is a reference to `find_value`.
+/// What stands before the first number is a reference to another function.
 #[test]
-fn two_refer_to_find_value() {
-    const THOSE: &str = "Those of [`find_value`]";
-    for (function, more) in [("find_bytes", &[][..]), ("copy_value", &[28][..])] {
+fn some_refer_to_others() {
+    for (function, other, more) in [
+        ("find_bytes", "find_value", &[][..]),
+        ("copy_value", "find_value", &[28][..]),
+        ("header_body_to_vec", "header_body_len", &[][..]),
+    ] {
         let list = errors(function);
-        let rest = list.trim_start().strip_prefix(THOSE);
+        let those = format!("Those of [`{other}`]");
+        let rest = list.trim_start().strip_prefix(&those);
         let rest = rest.unwrap_or_else(|| panic!("{function}: {list}"));
         assert_eq!(numbers(rest), more, "{function}");
     }

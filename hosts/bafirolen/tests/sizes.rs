@@ -2,7 +2,7 @@
 //! just so many, and none that is one shorter.
 
 use bafirolen::{
-    write_aad_section, write_encrypted_data_keys_section, write_header_body,
+    header_body_len, write_aad_section, write_encrypted_data_keys_section, write_header_body,
     write_only_authenticated, Draft, Form, Numbers, Refusal, FRAMED,
 };
 
@@ -41,6 +41,7 @@ fn body(version: usize, form: Form, pairs: &[u32], keys: &[u32], text: &[u8]) ->
         + 6 * (keys.len() / 3)
         + parts as usize;
     takes(length, |out| write_header_body(&draft, out));
+    assert_eq!(header_body_len(&draft), Ok(length));
     length
 }
 

@@ -1,17 +1,20 @@
 //! Numbers that agree with the right one in their lowest byte or bytes: each
 //! is refused, and none is cut to what its field holds.
 
-use bafirolen::{read_header_auth_tag, write_header_auth_tag, write_header_body};
+use bafirolen::{header_body_len, read_header_auth_tag, write_header_auth_tag, write_header_body};
 use bafirolen::{Draft, Form, Numbers};
 
 /// Those of document 01's header H.
 const H: Numbers = Numbers::version_1(0x0178, 2, 4_096);
 
 /// What writing them with no pair and no key answers: a refusal's number, or
-/// 0. A refusal leaves the output.
+/// 0. A refusal leaves the output. The length, asked before, is answered alike.
 fn answer(numbers: Numbers) -> u32 {
     let mut out = [0xEE; 64];
-    match write_header_body(&Draft::new(numbers, &[0; 16]), &mut out) {
+    let draft = Draft::new(numbers, &[0; 16]);
+    let answer = write_header_body(&draft, &mut out);
+    assert_eq!(header_body_len(&draft), answer);
+    match answer {
         Ok(length) => {
             assert_eq!((length, out[0]), (34, 1));
             0

@@ -84,7 +84,7 @@ pub fn read_body(message: &[u8], pairs: &mut [u32], keys: &mut [u32]) -> u64 {
 }
 
 #[inline]
-pub fn write_body(fields: &Fields, lent: &Lent, out: &mut [u8]) -> u64 {
+fn draft<'a>(fields: &'a Fields, lent: &'a Lent) -> Draft<'a> {
     let (suite, content_type, frame_length) =
         (fields.suite, fields.content_type, fields.frame_length);
     let numbers = match fields.version {
@@ -95,11 +95,36 @@ pub fn write_body(fields: &Fields, lent: &Lent, out: &mut [u8]) -> u64 {
         image::Form::Today => Form::Today,
         image::Form::Old => Form::Old,
     };
-    let draft = Draft::new(numbers.with_form(form), &fields.id)
+    Draft::new(numbers.with_form(form), &fields.id)
         .with_suite_data(&fields.suite_data)
-        .with_tables(&lent.text, &lent.pairs, &lent.keys);
+        .with_tables(&lent.text, &lent.pairs, &lent.keys)
+}
+
+#[inline]
+pub fn write_body(fields: &Fields, lent: &Lent, out: &mut [u8]) -> u64 {
     told(
-        bafirolen::write_header_body(&draft, out)
+        bafirolen::write_header_body(&draft(fields, lent), out)
+            .map(|length| length as u64)
+            .map_err(number),
+    )
+}
+
+#[inline]
+pub fn body_len(fields: &Fields, lent: &Lent) -> u64 {
+    told(
+        bafirolen::header_body_len(&draft(fields, lent))
+            .map(|length| length as u64)
+            .map_err(number),
+    )
+}
+
+/// Into just as much of the output as the body takes.
+#[inline]
+pub fn measure_and_write_body(fields: &Fields, lent: &Lent, out: &mut [u8]) -> u64 {
+    let draft = draft(fields, lent);
+    told(
+        bafirolen::header_body_len(&draft)
+            .and_then(|length| bafirolen::write_header_body(&draft, &mut out[..length]))
             .map(|length| length as u64)
             .map_err(number),
     )

@@ -80,6 +80,14 @@ pub fn write_body(fields: &Fields, lent: &Lent, out: &mut [u8]) -> u64 {
 }
 
 #[inline]
+pub fn body_len(fields: &Fields, lent: &Lent) -> u64 {
+    let numbers = Numbers::from(fields.numbers());
+    let (id, data) = (&fields.id, &fields.suite_data);
+    let (text, pairs, keys) = (&lent.text, &lent.pairs, &lent.keys);
+    told(reference::header_body_len(&numbers, id, data, text, pairs, keys).map_err(number))
+}
+
+#[inline]
 pub fn refile_body(message: &[u8], pairs: &mut [u32], keys: &mut [u32], out: &mut [u8]) -> u64 {
     let (which, mode) = (Which::Either, Mode::Tolerant);
     told(

@@ -2,7 +2,7 @@
 //! by hand ask them: what both answered is what the row has.
 
 use crate::numbers::{self, answered, numbers, Answer};
-use crate::{reads, request, writes};
+use crate::{lengths, reads, request, writes};
 use bafirolen::{Draft, Mode, Which};
 use generator::rows::{Asked, Body, Codec, Lent, Place, Record, Refused, Section, Written};
 
@@ -34,6 +34,12 @@ fn which(version: u32) -> Which {
 fn written((answer, after): (Answer<usize>, Vec<u8>), out: &mut [u8]) -> Written {
     out.copy_from_slice(&after);
     row(answer, |length| length as u64)
+}
+
+fn draft(lent: Lent) -> Draft {
+    Draft::new(numbers(&reference::Numbers::from(lent.numbers)), lent.id)
+        .with_suite_data(lent.suite_data)
+        .with_tables(lent.text, lent.pairs, lent.keys)
 }
 
 fn body(body: reference::Body) -> Body {
@@ -135,11 +141,13 @@ impl Codec for Both {
         )
     }
 
+    fn body_len(&self, lent: Lent) -> Written {
+        let answer = lengths::header_body_len(&draft(lent));
+        row(answer, |length| length as u64)
+    }
+
     fn write_body(&self, lent: Lent, out: &mut [u8]) -> Written {
-        let lent = Draft::new(numbers(&reference::Numbers::from(lent.numbers)), lent.id)
-            .with_suite_data(lent.suite_data)
-            .with_tables(lent.text, lent.pairs, lent.keys);
-        written(writes::write_header_body(lent, out), out)
+        written(writes::write_header_body(draft(lent), out), out)
     }
 
     fn write_record(&self, suite: u32, iv: &[u8], tag: &[u8], out: &mut [u8]) -> Written {

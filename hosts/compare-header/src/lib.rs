@@ -1,9 +1,11 @@
 //! The proved operations held against the separate implementation.
 //!
-//! The functions of `reads` and `writes` hand one request to both, and hold
-//! the answers, tables and outputs against each other, byte for byte. What is
-//! lent to be read is held against a copy: of up to 4,096 bytes after each
-//! call, of up to 1 MiB once in 17 times. The tests only make requests.
+//! The functions of `reads`, `writes` and `lengths` hand one request to both,
+//! and hold the answers, tables and outputs against each other, byte for byte.
+//! What is lent to be read is held against a copy: of up to 4,096 bytes after
+//! each call, of up to 1 MiB once in 17 times. The tests only make requests.
+//! Each body that is to be written is measured first, and written into outputs
+//! that just hold it and just don't.
 #![forbid(unsafe_code)]
 
 pub mod answers;
@@ -12,6 +14,7 @@ pub mod every;
 pub mod expected;
 pub mod guarded;
 pub mod kept;
+pub mod lengths;
 pub mod numbers;
 mod parts;
 pub mod reads;

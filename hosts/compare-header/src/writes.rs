@@ -2,12 +2,13 @@
 
 use crate::guarded::Guarded;
 use crate::kept::Kept;
+use crate::lengths::{foretold, header_body_len, rooms};
 use crate::numbers::{refused, their_numbers, Answer};
 use crate::reads::{few, shown_at};
 use bafirolen::{Draft, Refusal};
 
 /// A draft with the fronts of what it lends, as a failure shows it.
-fn shown<'a>(draft: &Draft<'a>) -> Draft<'a> {
+pub fn shown<'a>(draft: &Draft<'a>) -> Draft<'a> {
     Draft::new(draft.numbers, few(draft.message_id))
         .with_suite_data(few(draft.suite_data))
         .with_tables(few(draft.text), few(draft.pairs), few(draft.keys))
@@ -119,13 +120,32 @@ pub fn write_listing(message: &[u8], out: &[u8]) -> (Answer<usize>, Vec<u8>) {
     )
 }
 
+/// What other outputs are filled with.
+const FILL: u8 = 0xEE;
+
+/// The length is asked first, and then the body is also written into outputs
+/// about that length: each answer is the one foretold.
 pub fn write_header_body(draft: Draft, out: &[u8]) -> (Answer<usize>, Vec<u8>) {
+    let length = header_body_len(&draft);
+    let others = rooms(&draft, length).into_iter();
+    for room in others.filter(|room| *room != out.len()) {
+        let (answer, out) = write_body(&draft, &vec![FILL; room]);
+        assert_eq!(answer, foretold(length, room), "an output of {room} bytes");
+        let kept = &out[answer.unwrap_or(0)..];
+        assert!(kept.iter().all(|&byte| byte == FILL), "{answer:?}");
+    }
+    let answered = write_body(&draft, out);
+    assert_eq!(answered.0, foretold(length, out.len()));
+    answered
+}
+
+fn write_body(draft: &Draft, out: &[u8]) -> (Answer<usize>, Vec<u8>) {
     let bytes = [draft.message_id, draft.suite_data, draft.text];
     both(
         out,
         (bytes, [draft.pairs, draft.keys]),
-        || format!("{:02X?}", shown(&draft)),
-        |out| bafirolen::write_header_body(&draft, out),
+        || format!("{:02X?}", shown(draft)),
+        |out| bafirolen::write_header_body(draft, out),
         |out| {
             reference::write_header_body(
                 &their_numbers(draft.numbers),

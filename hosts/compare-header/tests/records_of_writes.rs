@@ -7,6 +7,7 @@ use compare_header::scale::seeds;
 use generator::body_write_cases::body_write_case;
 use generator::fields::Fields;
 use generator::only_cases::only_case;
+use generator::tables::Lent;
 use generator::write_cases::write_section_case;
 
 /// The record of what was written or refused.
@@ -60,6 +61,48 @@ fn numbers(fields: &Fields) -> BafirolenNumbers {
     }
 }
 
+/// The record of a body's length.
+fn length(fields: &Fields, lent: &Lent) -> BafirolenWritten {
+    // SAFETY: pointers and lengths are those of vectors, which are only read.
+    unsafe {
+        bafirolen_header_body_len(
+            numbers(fields),
+            fields.id.as_ptr(),
+            fields.id.len(),
+            fields.suite_data.as_ptr(),
+            fields.suite_data.len(),
+            lent.text.as_ptr(),
+            lent.text.len(),
+            lent.pairs.as_ptr(),
+            lent.pairs.len(),
+            lent.keys.as_ptr(),
+            lent.keys.len(),
+        )
+    }
+}
+
+/// The record of a body written.
+fn body(fields: &Fields, lent: &Lent, out: &mut [u8]) -> BafirolenWritten {
+    // SAFETY: pointers and lengths are those of vectors, all apart.
+    unsafe {
+        bafirolen_write_header_body(
+            numbers(fields),
+            fields.id.as_ptr(),
+            fields.id.len(),
+            fields.suite_data.as_ptr(),
+            fields.suite_data.len(),
+            lent.text.as_ptr(),
+            lent.text.len(),
+            lent.pairs.as_ptr(),
+            lent.pairs.len(),
+            lent.keys.as_ptr(),
+            lent.keys.len(),
+            out.as_mut_ptr(),
+            out.len(),
+        )
+    }
+}
+
 /// A mark of a form may be any number, and any but 0 is old.
 #[test]
 fn bodies() {
@@ -68,40 +111,20 @@ fn bodies() {
         let case = body_write_case(seed);
         let (fields, lent) = (&case.fields, &case.lent);
         let (mut ours, mut theirs) = (case.out.clone(), case.out);
-        // SAFETY: pointers and lengths are those of vectors, all apart.
-        let written = unsafe {
-            bafirolen_write_header_body(
-                numbers(fields),
-                fields.id.as_ptr(),
-                fields.id.len(),
-                fields.suite_data.as_ptr(),
-                fields.suite_data.len(),
-                lent.text.as_ptr(),
-                lent.text.len(),
-                lent.pairs.as_ptr(),
-                lent.pairs.len(),
-                lent.keys.as_ptr(),
-                lent.keys.len(),
-                ours.as_mut_ptr(),
-                ours.len(),
-            )
-        };
-        let wanted = reference::write_header_body(
-            &fields.numbers().into(),
-            &fields.id,
-            &fields.suite_data,
-            &lent.text,
-            &lent.pairs,
-            &lent.keys,
-            &mut theirs,
-        );
-        assert_eq!(written, self::written(wanted), "seed {seed}");
+        let (id, data) = (&fields.id, &fields.suite_data);
+        let (text, pairs, keys) = (&lent.text, &lent.pairs, &lent.keys);
+        let list = fields.numbers().into();
+        let wanted = reference::header_body_len(&list, id, data, text, pairs, keys);
+        assert_eq!(length(fields, lent), written(wanted), "seed {seed}");
+        let answer = body(fields, lent, &mut ours);
+        let wanted = reference::write_header_body(&list, id, data, text, pairs, keys, &mut theirs);
+        assert_eq!(answer, written(wanted), "seed {seed}");
         assert!(ours == theirs, "seed {seed}");
         marked += u64::from(wanted.is_ok() && fields.form > 1);
-        count += 1;
+        count += 2;
     }
     assert!(marked > 0, "no unknown mark was written");
-    compared(count, "records of bodies written");
+    compared(count, "records of bodies measured and written");
 }
 
 /// A shortage has a position here too.

@@ -4,8 +4,10 @@
 use compare_header::both::{listing, Both};
 use compare_header::{compared, reads};
 use generator::image::OLD_MARKS;
-use generator::rows::{forms, frame_sizes, frames, header_writes, headers, listings};
-use generator::rows::{many_frames, only_authenticated, records, section_writes, sections, sizes};
+use generator::rows::{body_lengths, forms, frame_sizes, frames, header_writes, headers};
+use generator::rows::{
+    listings, many_frames, only_authenticated, records, section_writes, sections, sizes,
+};
 
 /// None of the rows that a table had is lost.
 fn held(rows: u64, wanted: u64, what: &str) {
@@ -27,7 +29,16 @@ fn headers_read() {
 fn headers_written() {
     let rows = header_writes::header_v2_is_read_and_written(&Both)
         + header_writes::header_h_is_written_with_each_fault(&Both);
-    held(rows, 5 + 16, "rows of headers written");
+    held(rows, 7 + (2 * 14 + 3), "rows of headers written");
+}
+
+#[test]
+fn lengths_of_bodies() {
+    let rows = body_lengths::lengths(&Both)
+        + body_lengths::refusals(&Both)
+        + body_lengths::the_longest(&Both);
+    let wanted = 18 * 4 + 25 * 2 * 3 + 2 * (3 * 4 + 2);
+    held(rows, wanted, "rows of lengths of bodies");
 }
 
 #[test]
@@ -37,9 +48,9 @@ fn forms_of_bodies() {
         + forms::a_pair_in_the_old_form(&Both)
         + forms::no_pair_in_the_old_form(&Both);
     let marks = OLD_MARKS.len() as u64;
-    let again = 2 * (6 * 4 + (4 * 4 + 2 * 2) * 3);
-    let marked = 2 * (3 + 2 * (3 + 4 * marks) + 3 * marks + 1);
-    let refused = 2 * (2 * (13 + 11) + 1) + 2 * (1 + 11);
+    let again = 2 * (6 * 4 + (4 * 4 + 2 * 2) * 4);
+    let marked = 2 * (4 + 2 * (4 + (4 + 2) * marks) + 3 * 2 * marks + 1);
+    let refused = 2 * 2 * (2 * (13 + 11) + 1) + 2 * 2 * (1 + 11);
     held(rows, again + marked + refused, "rows of forms");
 }
 

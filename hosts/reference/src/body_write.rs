@@ -105,17 +105,16 @@ fn test_back(numbers: &Numbers, suite_data: &[u8]) -> Result<(), Refusal> {
     Ok(())
 }
 
-/// Writes a body from the output's first byte; answers its length. Pairs and
-/// keys have their places in one text. 3; 5; 6; 7; 24; the pairs' but 28; 33;
-/// the keys' but 28; 17; 19; 25; 20; 28.
-pub fn write_header_body(
+/// Says, without an output, how many bytes a body takes when it is written.
+/// Pairs and keys have their places in one text. 3; 5; 6; 7; 24; the pairs' but
+/// 28; 33; the keys' but 28; 17; 19; 25; 20.
+pub fn header_body_len(
     numbers: &Numbers,
     id: &[u8],
     suite_data: &[u8],
     text: &[u8],
     pairs: &[u32],
     keys: &[u32],
-    out: &mut [u8],
 ) -> Result<u64, Refusal> {
     test_front(numbers)?;
     if id.len() as u64 != id_length(numbers.version) {
@@ -132,13 +131,26 @@ pub fn write_header_body(
         1 => 1 + 4 + 1 + 4,
         _ => 1 + 4 + Suite::COMMIT_LEN,
     };
-    let length = front_length + pairs_length + keys_length + back_length;
+    Ok(front_length + pairs_length + keys_length + back_length)
+}
+
+/// Writes a body from the output's first byte; answers its length. What its
+/// length is refused by; 28.
+pub fn write_header_body(
+    numbers: &Numbers,
+    id: &[u8],
+    suite_data: &[u8],
+    text: &[u8],
+    pairs: &[u32],
+    keys: &[u32],
+    out: &mut [u8],
+) -> Result<u64, Refusal> {
+    let length = header_body_len(numbers, id, suite_data, text, pairs, keys)?;
     if length > out.len() as u64 {
         return Err(Refusal::of(OUTPUT));
     }
-
     let mut at = put_front(numbers, id, out);
-    at += put_context(numbers, text, pairs, pairs_length, &mut out[at..]);
+    at += put_context(numbers, text, pairs, &mut out[at..]);
     at += keys::put_section(text, keys, &mut out[at..]);
     put_back(numbers, suite_data, &mut out[at..]);
     Ok(length)
@@ -154,17 +166,11 @@ fn put_front(numbers: &Numbers, id: &[u8], out: &mut [u8]) -> usize {
 }
 
 /// Writes a tested context; answers the place after it.
-fn put_context(
-    numbers: &Numbers,
-    text: &[u8],
-    pairs: &[u32],
-    length: u64,
-    out: &mut [u8],
-) -> usize {
+fn put_context(numbers: &Numbers, text: &[u8], pairs: &[u32], out: &mut [u8]) -> usize {
     if numbers.form != TODAY {
         return put(out, 0, &OLD_EMPTY);
     }
-    context_write::put_section(text, pairs, length, out)
+    context_write::put_section(text, pairs, out)
 }
 
 fn put_back(numbers: &Numbers, suite_data: &[u8], out: &mut [u8]) {

@@ -34,17 +34,17 @@ pub(crate) fn test_pairs(text: &[u8], pairs: &[u32]) -> Result<u64, Refusal> {
     Ok(if pairs.is_empty() { 2 } else { 4 + total })
 }
 
-/// Writes tested pairs of the given section length; answers the place after.
-pub(crate) fn put_section(text: &[u8], pairs: &[u32], length: u64, out: &mut [u8]) -> usize {
-    let mut at = put(out, 0, &((length - 2) as u16).to_be_bytes());
+/// Writes tested pairs; answers the place after them.
+pub(crate) fn put_section(text: &[u8], pairs: &[u32], out: &mut [u8]) -> usize {
     if pairs.is_empty() {
-        return at;
+        return put(out, 0, &[0, 0]);
     }
     let count = (pairs.len() / NUMBERS_A_PAIR) as u16;
-    at = put(out, at, &count.to_be_bytes());
+    let mut at = put(out, 2, &count.to_be_bytes());
     for place in pairs.chunks_exact(2) {
         at = put_entry(out, at, text_part(text, place));
     }
+    put(out, 0, &((at - 2) as u16).to_be_bytes());
     at
 }
 
@@ -55,6 +55,6 @@ pub fn write_aad_section(text: &[u8], pairs: &[u32], out: &mut [u8]) -> Result<u
     if length > out.len() as u64 {
         return Err(Refusal::of(OUTPUT));
     }
-    put_section(text, pairs, length, out);
+    put_section(text, pairs, out);
     Ok(length)
 }

@@ -30,7 +30,7 @@ pub mod utf8;
 
 pub use auth::{read_header_auth_tag, write_header_auth_tag, AuthRecord};
 pub use body::{read_header_body, Body, Which};
-pub use body_write::{write_header_body, Numbers};
+pub use body_write::{header_body_len, write_header_body, Numbers};
 pub use context::{find, find_part, read_aad_section, Mode, PairsRead};
 pub use context_write::write_aad_section;
 pub use frames::{read_frames, FramesRead};

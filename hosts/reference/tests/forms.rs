@@ -10,7 +10,7 @@ use generator::rows::forms;
 fn read_then_written() {
     // Two headers of six are old, which half of the four readers refuse.
     let rows = forms::read_then_written(&Reference);
-    let wanted = 2 * (6 * 4 + (4 * 4 + 2 * 2) * 3);
+    let wanted = 2 * (6 * 4 + (4 * 4 + 2 * 2) * 4);
     report_rows("forms read and written", rows, wanted);
 }
 
@@ -18,18 +18,18 @@ fn read_then_written() {
 fn every_mark() {
     let marks = OLD_MARKS.len() as u64;
     let rows = forms::every_mark(&Reference);
-    let wanted = 2 * (3 + 2 * (3 + 4 * marks) + 3 * marks + 1);
+    let wanted = 2 * (4 + 2 * (4 + (4 + 2) * marks) + 3 * 2 * marks + 1);
     report_rows("marks of a form", rows, wanted);
 }
 
 #[test]
 fn a_pair_in_the_old_form() {
     let rows = forms::a_pair_in_the_old_form(&Reference);
-    report_rows("a pair in the old form", rows, 2 * (2 * (13 + 11) + 1));
+    report_rows("a pair in the old form", rows, 2 * 2 * (2 * (13 + 11) + 1));
 }
 
 #[test]
 fn no_pair_in_the_old_form() {
     let rows = forms::no_pair_in_the_old_form(&Reference);
-    report_rows("no pair in the old form", rows, 2 * (1 + 11));
+    report_rows("no pair in the old form", rows, 2 * 2 * (1 + 11));
 }

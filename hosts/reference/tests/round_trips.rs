@@ -151,36 +151,28 @@ fn refiled(random: &mut Random, fields: &Fields) -> u64 {
     2
 }
 
-/// What is written again is the image: into an output that just holds it, and
-/// into a longer one, whose rest keeps; a shorter one is refused.
+/// What is written again is the image, whose length is known before: into an
+/// output that just holds it, and into a longer one, whose rest keeps; a shorter
+/// one is refused.
 fn is_written_again(body: &Body, message: &[u8], pairs: &[u32], keys: &[u32], image: &[u8]) {
     let length = image.len();
-    for room in [length, length + 7] {
-        let mut out = vec![0xEE; room];
-        let answer = write_again(body, message, pairs, keys, &mut out);
-        assert_eq!(answer, Ok(length as u64));
-        assert_eq!(out[..length], *image);
-        assert!(out[length..].iter().all(|&byte| byte == 0xEE));
-    }
-    let mut out = vec![0xEE; length - 1];
-    let answer = write_again(body, message, pairs, keys, &mut out);
-    assert_eq!(answer, Err(Refusal::of(28)));
-    assert!(out.iter().all(|&byte| byte == 0xEE));
-}
-
-/// Writes a body from the message it was read in.
-fn write_again(
-    body: &Body,
-    message: &[u8],
-    pairs: &[u32],
-    keys: &[u32],
-    out: &mut [u8],
-) -> Result<u64, Refusal> {
+    let numbers = &body.numbers();
     let id = body.id.within(message).unwrap();
     let data = body.suite_data.within(message).unwrap();
     let pairs = &pairs[..4 * body.pairs as usize];
     let keys = &keys[..6 * body.keys as usize];
-    write_header_body(&body.numbers(), id, data, message, pairs, keys, out)
+    let measured = header_body_len(numbers, id, data, message, pairs, keys);
+    assert_eq!(measured, Ok(length as u64));
+    let write = |out: &mut [u8]| write_header_body(numbers, id, data, message, pairs, keys, out);
+    for room in [length, length + 7] {
+        let mut out = vec![0xEE; room];
+        assert_eq!(write(&mut out), Ok(length as u64));
+        assert_eq!(out[..length], *image);
+        assert!(out[length..].iter().all(|&byte| byte == 0xEE));
+    }
+    let mut out = vec![0xEE; length - 1];
+    assert_eq!(write(&mut out), Err(Refusal::of(28)));
+    assert!(out.iter().all(|&byte| byte == 0xEE));
 }
 
 /// Whatever is accepted, damaged or not, is written again to the bytes it was

@@ -6,7 +6,7 @@ use std::collections::BTreeSet;
 /// for each operation, in its order of tests; each stands where it comes first,
 /// such as 2 and 32, which are tested of each part in turn, and 34, which is
 /// tested of each frame.
-pub const LISTED: [(&str, &[u32]); 18] = [
+pub const LISTED: [(&str, &[u32]); 19] = [
     (
         "read section tolerant",
         &[1, 2, 32, 8, 9, 10, 11, 12, 14, 22],
@@ -61,15 +61,23 @@ pub const LISTED: [(&str, &[u32]); 18] = [
     ("read frames", &[1, 20, 2, 34, 35, 23]),
     ("write section", &[26, 27, 10, 11, 12, 13, 28]),
     ("write keys", &[26, 27, 16, 28]),
-    (
-        "write body",
-        &[
-            3, 5, 6, 7, 24, 26, 27, 10, 11, 12, 13, 33, 16, 17, 19, 25, 20, 28,
-        ],
-    ),
+    ("write body", WRITE_BODY),
+    ("body length", but_28(WRITE_BODY)),
     ("write auth", &[6, 19, 30, 28]),
     ("write listing", &[28]),
 ];
+
+const WRITE_BODY: &[u32] = &[
+    3, 5, 6, 7, 24, 26, 27, 10, 11, 12, 13, 33, 16, 17, 19, 25, 20, 28,
+];
+
+/// A writer's list without its last line, the output that is too short.
+const fn but_28(list: &'static [u32]) -> &'static [u32] {
+    match list {
+        [rest @ .., 28] => rest,
+        _ => panic!("28 is tested last"),
+    }
+}
 
 /// The operations that read a body.
 pub const BODY_READERS: [&str; 6] = [

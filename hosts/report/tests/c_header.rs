@@ -22,7 +22,7 @@ fn the_numbers_of_refusals() {
 }
 
 /// Each function that refuses, and the operations that its list is of.
-const FUNCTIONS: [(&str, &[&str]); 14] = [
+const FUNCTIONS: [(&str, &[&str]); 15] = [
     ("bafirolen_header_number", &["read body tolerant"]),
     ("bafirolen_read_header_body", &BODY_READERS),
     (
@@ -41,6 +41,7 @@ const FUNCTIONS: [(&str, &[&str]); 14] = [
     ),
     ("bafirolen_write_header_auth_tag", &["write auth"]),
     ("bafirolen_write_header_body", &["write body"]),
+    ("bafirolen_header_body_len", &["body length"]),
     (
         "bafirolen_write_only_authenticated",
         &["write only authenticated"],

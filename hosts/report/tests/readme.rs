@@ -7,7 +7,7 @@ use std::collections::BTreeSet;
 const README: &str = include_str!("../../../README.md");
 
 /// A column of the table, and the operations that it is of.
-const COLUMNS: [(&str, &[&str]); 12] = [
+const COLUMNS: [(&str, &[&str]); 13] = [
     ("context", &["read section tolerant", "read section strict"]),
     ("keys", &["read keys"]),
     ("body", &BODY_READERS),
@@ -18,6 +18,7 @@ const COLUMNS: [(&str, &[&str]); 12] = [
     ("write context", &["write section"]),
     ("write keys", &["write keys"]),
     ("write body", &["write body"]),
+    ("body length", &["body length"]),
     ("write record", &["write auth"]),
     ("listing", &["write listing"]),
 ];

@@ -1,14 +1,24 @@
 //! A caller without std, which has a panic handler of its own. It compiles
-//! only if nothing that it uses brings std with it, since std has one too.
+//! only if nothing that it uses brings std with it, since std has one too. It
+//! has no allocator, so that it links only without the feature `alloc`.
 #![no_std]
 
-use bafirolen::{read_header_body, Refusal, Request};
+use bafirolen::{header_body_len, read_header_body, write_header_body, Draft, Refusal, Request};
 
 /// How many pairs the header at the message's front has.
 pub fn count_pairs(message: &[u8]) -> Result<usize, Refusal> {
     let (mut pairs, mut keys) = ([0; 40], [0; 60]);
     let body = read_header_body(message, 0, Request::default(), &mut pairs, &mut keys)?;
     Ok(body.pairs().len())
+}
+
+/// Writes the body of a draft to the front of a room, and gives that front. A
+/// room that is too short is refused as the writer refuses it.
+pub fn write_front<'r>(draft: &Draft<'_>, room: &'r mut [u8]) -> Result<&'r [u8], Refusal> {
+    let length = header_body_len(draft)?;
+    let out = room.get_mut(..length).ok_or(Refusal::OutputTooShort)?;
+    write_header_body(draft, out)?;
+    Ok(out)
 }
 
 #[panic_handler]

@@ -14,7 +14,7 @@ use generator::{Key, Pair};
 use std::hint::black_box;
 
 /// A body's name, its pairs and its keys.
-const SIZES: [(&str, usize, usize); 4] = [
+pub(super) const SIZES: [(&str, usize, usize); 4] = [
     ("10 pairs, 3 keys", 10, 3),
     ("200 pairs, 1 key", 200, 1),
     ("1100 pairs, 1 key", 1_100, 1),
@@ -36,7 +36,7 @@ pub fn rows(table: &mut Table) {
 }
 
 /// Header H of document 01, and others with parts as long as its.
-fn headers_h() -> Vec<Fields> {
+pub(super) fn headers_h() -> Vec<Fields> {
     let mut random = Random::new(11);
     let mut headers = vec![fields(
         (0..16).collect(),
@@ -57,7 +57,7 @@ fn headers_h() -> Vec<Fields> {
 }
 
 /// The same with an empty context in its old form.
-fn old_headers() -> Vec<Fields> {
+pub(super) fn old_headers() -> Vec<Fields> {
     let mut headers = headers_h();
     for fields in &mut headers {
         fields.pairs.clear();
@@ -66,7 +66,7 @@ fn old_headers() -> Vec<Fields> {
     headers
 }
 
-fn bodies(pair_count: usize, key_count: usize) -> Vec<Fields> {
+pub(super) fn bodies(pair_count: usize, key_count: usize) -> Vec<Fields> {
     let mut random = Random::new(9);
     let lists = varied(ROTATION, |random| {
         pairs(random, pair_count, (10, 16), Order::Shuffled)

@@ -5,6 +5,7 @@ mod context;
 mod frames;
 mod keys;
 mod leaves;
+mod lengths;
 mod lists;
 mod required;
 
@@ -33,6 +34,11 @@ pub const GROUPS: &[Group] = &[
         "bodies",
         "header bodies read and written, by their sections",
         bodies::rows,
+    ),
+    (
+        "lengths",
+        "the length of header bodies, alone and before they are written",
+        lengths::rows,
     ),
     (
         "frames",

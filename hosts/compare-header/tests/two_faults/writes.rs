@@ -1,11 +1,10 @@
-//! Writing: both sections, a body of each version, the authentication record;
-//! and the listing.
+//! Writing: both sections, a body of each version, which is measured before,
+//! the authentication record; and the listing.
 
 use super::every_pair::{record, write, Fault, Listed, Names};
 use bafirolen::Draft;
 use compare_header::numbers::{answered, numbers};
-use compare_header::writes;
-use compare_header::Coverage;
+use compare_header::{lengths, writes, Coverage};
 use generator::faults::{ReadDraft, RecordDraft, WriteDraft};
 
 type Faults = Vec<Fault<WriteDraft>>;
@@ -117,36 +116,51 @@ fn back() -> Faults {
         write("25 suite data", |d| d.suite_data.push(0)),
         write("20 framed", |d| d.content(2, 0)),
         write("20 non-framed", |d| d.content(1, 1)),
-        output(),
     ]
 }
 
-/// Write a body of a version.
-fn body(version: u32) -> Listed<WriteDraft> {
+/// The length of a body of a version, before it is written.
+fn length(version: u32) -> Listed<WriteDraft> {
     let mut list = front(version);
     list.extend(pairs());
     list.push(write("33 form", |d| d.mark_old()));
     list.extend(keys());
     list.extend(back());
     Listed {
-        operation: "write body",
+        operation: "body length",
         version: Some(version),
         sound: WriteDraft::body(version),
         list,
     }
 }
 
-/// Write a body of a version in the old form, which has no pair to be refused.
-fn old_body(version: u32) -> Listed<WriteDraft> {
+/// The same in the old form, which has no pair to be refused.
+fn old_length(version: u32) -> Listed<WriteDraft> {
     let mut list = front(version);
     list.extend(keys());
     list.extend(back());
     Listed {
-        operation: "write old body",
+        operation: "old body length",
         version: Some(version),
         sound: WriteDraft::old_body(version),
         list,
     }
+}
+
+/// Write a body of a version: what its length is refused by, then the output.
+fn body(version: u32) -> Listed<WriteDraft> {
+    let mut listed = length(version);
+    listed.operation = "write body";
+    listed.list.push(output());
+    listed
+}
+
+/// Write a body of a version in the old form.
+fn old_body(version: u32) -> Listed<WriteDraft> {
+    let mut listed = old_length(version);
+    listed.operation = "write old body";
+    listed.list.push(output());
+    listed
 }
 
 /// Write an authentication record of a suite of a version.
@@ -166,6 +180,8 @@ fn auth(version: u32) -> Listed<RecordDraft> {
 
 pub fn lists() -> Vec<Names> {
     let mut lists = vec![context().names(), key_section().names()];
+    lists.extend([1, 2].map(|version| length(version).names()));
+    lists.extend([1, 2].map(|version| old_length(version).names()));
     lists.extend([1, 2].map(|version| body(version).names()));
     lists.extend([1, 2].map(|version| old_body(version).names()));
     lists.extend([1, 2].map(|version| auth(version).names()));
@@ -185,11 +201,36 @@ fn sections() {
     answers.assert_complete(["write section", "write keys"]);
 }
 
-fn body_answer(d: &WriteDraft) -> (u32, u64) {
-    let lent = Draft::new(numbers(&reference::Numbers::from(d.numbers)), &d.id)
+fn lent(d: &WriteDraft) -> Draft<'_> {
+    Draft::new(numbers(&reference::Numbers::from(d.numbers)), &d.id)
         .with_suite_data(&d.suite_data)
-        .with_tables(&d.text, &d.pairs, &d.keys);
-    answered(&writes::write_header_body(lent, &vec![0xEE; d.room]).0)
+        .with_tables(&d.text, &d.pairs, &d.keys)
+}
+
+fn body_answer(d: &WriteDraft) -> (u32, u64) {
+    answered(&writes::write_header_body(lent(d), &vec![0xEE; d.room]).0)
+}
+
+#[test]
+fn lengths_of_bodies() {
+    let mut answers = Coverage::default();
+    for version in [1, 2] {
+        length(version).every_pair(&mut answers, |d| {
+            answered(&lengths::header_body_len(&lent(d)))
+        });
+    }
+    answers.assert_complete(["body length"]);
+}
+
+#[test]
+fn lengths_of_old_bodies() {
+    let mut answers = Coverage::default();
+    for version in [1, 2] {
+        old_length(version).every_pair(&mut answers, |d| {
+            answered(&lengths::header_body_len(&lent(d)))
+        });
+    }
+    answers.assert_answered(["old body length"]);
 }
 
 #[test]

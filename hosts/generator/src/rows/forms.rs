@@ -55,6 +55,7 @@ impl<'a> Read<'a> {
 
 /// What is written is the image: into an output that just holds it, and into a
 /// longer one, whose rest keeps. One that is a byte too short is refused by 28.
+/// The length is known before. Answers how many answers these are.
 fn is_written(codec: &impl Codec, lent: Lent, image: &[u8]) -> u64 {
     let length = image.len();
     for room in [length, length + 5] {
@@ -63,14 +64,27 @@ fn is_written(codec: &impl Codec, lent: Lent, image: &[u8]) -> u64 {
         assert_eq!(out[..length], *image);
         assert!(out[length..].iter().all(|&byte| byte == 0xEE));
     }
-    is_refused(codec, lent, length - 1, 28);
-    3
+    2 + is_too_short(codec, lent, length - 1, length as u64)
 }
 
-fn is_refused(codec: &impl Codec, lent: Lent, room: usize, number: u32) {
+fn keeps(codec: &impl Codec, lent: Lent, room: usize, number: u32) {
     let mut out = vec![0xEE; room];
     assert_eq!(codec.write_body(lent, &mut out), Err((number, 0)));
     assert!(out.iter().all(|&byte| byte == 0xEE), "{number}");
+}
+
+/// Too short an output is refused, and the length is known all the same.
+fn is_too_short(codec: &impl Codec, lent: Lent, room: usize, length: u64) -> u64 {
+    keeps(codec, lent, room, 28);
+    assert_eq!(codec.body_len(lent), Ok(length));
+    2
+}
+
+/// Every other refusal is that of the length as well.
+fn is_refused(codec: &impl Codec, lent: Lent, room: usize, number: u32) -> u64 {
+    keeps(codec, lent, room, number);
+    assert_eq!(codec.body_len(lent), Err((number, 0)));
+    2
 }
 
 /// Headers of both versions, with pairs and with both forms of an empty
@@ -130,14 +144,12 @@ pub fn every_mark(codec: &impl Codec) -> u64 {
                     pairs,
                     ..empty.lent(mark)
                 };
-                is_refused(codec, lent, 200, 33);
-                compared += 1;
+                compared += is_refused(codec, lent, 200, 33);
             }
         }
         for mark in OLD_MARKS {
             for room in [0, pairs[at].len(), 200] {
-                is_refused(codec, full.lent(mark), room, 33);
-                compared += 1;
+                compared += is_refused(codec, full.lent(mark), room, 33);
             }
         }
         compared += read_again(codec, &today[at], &old[at]);
@@ -198,25 +210,28 @@ const AFTER: [Fault; 11] = [
     (28, |d| d.room -= 1),
 ];
 
+/// The length of a draft's body of each version, with its four pairs of 12
+/// bytes and two keys of 18, and of one of the old form.
+const LENGTHS: [u64; 2] = [34 + 2 + 48 + 36, 76 + 2 + 48 + 36];
+const OLD_LENGTHS: [u64; 2] = [36 + 36, 78 + 36];
+
 /// A body with pairs that is marked old and has another fault: the one that is
 /// tested first is answered. Not marked, it is the other.
 pub fn a_pair_in_the_old_form(codec: &impl Codec) -> u64 {
     let mut compared = 0;
-    for version in [1, 2] {
+    for (version, length) in [1, 2].into_iter().zip(LENGTHS) {
         let before = BEFORE.map(|(number, plant)| (number, plant, number));
         let after = AFTER.map(|(number, plant)| (number, plant, 33));
         for (number, plant, marked) in before.into_iter().chain(after) {
             let mut draft = WriteDraft::body(version);
             plant(&mut draft);
-            drafted(codec, &draft, number);
+            compared += drafted(codec, &draft, number, length);
             draft.mark_old();
-            drafted(codec, &draft, marked);
-            compared += 2;
+            compared += drafted(codec, &draft, marked, length);
         }
         let mut draft = WriteDraft::body(version);
         draft.mark_old();
-        drafted(codec, &draft, 33);
-        compared += 1;
+        compared += drafted(codec, &draft, 33, length);
     }
     compared
 }
@@ -225,17 +240,17 @@ pub fn a_pair_in_the_old_form(codec: &impl Codec) -> u64 {
 /// tested after.
 pub fn no_pair_in_the_old_form(codec: &impl Codec) -> u64 {
     let mut compared = 0;
-    for version in [1, 2] {
+    for (version, length) in [1, 2].into_iter().zip(OLD_LENGTHS) {
         let sound = WriteDraft::old_body(version);
         let mut out = vec![0xEE; sound.room];
         let answer = codec.write_body(lent(&sound), &mut out);
-        assert_eq!(answer, Ok(sound.room as u64));
-        compared += 1;
+        assert_eq!(answer, Ok(length));
+        assert_eq!(codec.body_len(lent(&sound)), Ok(length));
+        compared += 2;
         for (number, plant) in AFTER {
             let mut draft = sound.clone();
             plant(&mut draft);
-            drafted(codec, &draft, number);
-            compared += 1;
+            compared += drafted(codec, &draft, number, length);
         }
     }
     compared
@@ -252,6 +267,9 @@ fn lent(draft: &WriteDraft) -> Lent<'_> {
     }
 }
 
-fn drafted(codec: &impl Codec, draft: &WriteDraft, number: u32) {
-    is_refused(codec, lent(draft), draft.room, number);
+fn drafted(codec: &impl Codec, draft: &WriteDraft, number: u32, length: u64) -> u64 {
+    match number {
+        28 => is_too_short(codec, lent(draft), draft.room, length),
+        _ => is_refused(codec, lent(draft), draft.room, number),
+    }
 }

@@ -5,6 +5,7 @@
 //! there for the separate implementation and for ours. It answers how many
 //! rows it held.
 
+pub mod body_lengths;
 pub mod forms;
 pub mod frame_sizes;
 pub mod frames;
@@ -29,7 +30,7 @@ pub type Section = Result<(u32, u64), Refused>;
 /// A place: start and length.
 pub type Place = (u64, u64);
 
-/// What a writer answers: the length.
+/// What a writer answers, or what it would take: the length.
 pub type Written = Result<u64, Refused>;
 
 /// A body that was read.
@@ -99,6 +100,8 @@ pub trait Codec {
     fn host_answer(&self, message: &[u8], start: u64) -> (u32, u64);
     fn write_section(&self, text: &[u8], table: &[u32], out: &mut [u8]) -> Written;
     fn write_keys(&self, text: &[u8], table: &[u32], out: &mut [u8]) -> Written;
+    /// What the body takes, by what a writer is lent beside the output.
+    fn body_len(&self, lent: Lent) -> Written;
     fn write_body(&self, lent: Lent, out: &mut [u8]) -> Written;
     fn write_record(&self, suite: u32, iv: &[u8], tag: &[u8], out: &mut [u8]) -> Written;
     fn write_only_authenticated(

@@ -98,6 +98,18 @@ impl Codec for Reference {
         write_encrypted_data_keys_section(text, table, out).map_err(refusal)
     }
 
+    fn body_len(&self, lent: Lent) -> Written {
+        header_body_len(
+            &Numbers::from(lent.numbers),
+            lent.id,
+            lent.suite_data,
+            lent.text,
+            lent.pairs,
+            lent.keys,
+        )
+        .map_err(refusal)
+    }
+
     fn write_body(&self, lent: Lent, out: &mut [u8]) -> Written {
         write_header_body(
             &Numbers::from(lent.numbers),

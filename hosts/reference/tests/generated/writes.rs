@@ -2,6 +2,7 @@
 
 use crate::common::plain::No;
 use crate::common::plain_writes as plain;
+use crate::common::refusal;
 use crate::reads::{as_expected, number};
 use generator::auth_cases::auth_write_case;
 use generator::body_cases::body_case;
@@ -81,39 +82,39 @@ pub fn keys(coverage: &mut Coverage) -> u64 {
     SEEDS
 }
 
+/// Each is written, and its length asked before: the second opinion's image has
+/// as many bytes.
 pub fn bodies(coverage: &mut Coverage) -> u64 {
     const SEEDS: u64 = 300_000;
     for seed in 0..SEEDS {
         let case = body_write_case(seed);
         let (fields, lent) = (&case.fields, &case.lent);
         let list = fields.numbers();
-        let mut out = case.out.clone();
-        let answer = write_header_body(
-            &Numbers::from(list),
-            &fields.id,
-            &fields.suite_data,
-            &lent.text,
-            &lent.pairs,
-            &lent.keys,
-            &mut out,
+        let numbers = Numbers::from(list);
+        let (id, data) = (&fields.id, &fields.suite_data);
+        let (text, pairs, keys) = (&lent.text, &lent.pairs, &lent.keys);
+        let plain = plain::write_body(list, id, data, text, pairs, keys);
+
+        let length = header_body_len(&numbers, id, data, text, pairs, keys);
+        coverage.count("body length", number(&length));
+        let taken = plain.as_ref().map(|image| image.len() as u64);
+        assert_eq!(
+            length.map_err(refusal),
+            taken.map_err(|no| *no),
+            "seed {seed}"
         );
+
+        let mut out = case.out.clone();
+        let answer = write_header_body(&numbers, id, data, text, pairs, keys, &mut out);
         coverage.count("write body", number(&answer));
         as_expected(seed, &answer, case.expected);
         assert_ne!(case.expected, Expected::Open);
         if answer.is_ok() {
             assert_eq!(out[..case.image.len()], case.image, "seed {seed}");
         }
-        let plain = plain::write_body(
-            list,
-            &fields.id,
-            &fields.suite_data,
-            &lent.text,
-            &lent.pairs,
-            &lent.keys,
-        );
         output_is(seed, answer, (&case.out, &out), plain);
     }
-    SEEDS
+    2 * SEEDS
 }
 
 pub fn auth(coverage: &mut Coverage) -> u64 {

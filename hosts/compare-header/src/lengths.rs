@@ -1,0 +1,64 @@
+//! The length of a body before it is written, asked of both, and what it
+//! foretells of the writer.
+
+use crate::kept::Kept;
+use crate::numbers::{refused, their_numbers, Answer};
+use crate::writes::shown;
+use bafirolen::{Draft, Refusal};
+
+/// The longest outputs that a length is tried by; a longer image is only ever
+/// refused by 28.
+const LONGEST: usize = 1 << 17;
+
+/// One request for a length, handed to both. Nothing that is lent changes.
+pub fn header_body_len(draft: &Draft) -> Answer<usize> {
+    let bytes = Kept::new([draft.message_id, draft.suite_data, draft.text]);
+    let tables = Kept::new([draft.pairs, draft.keys]);
+    let answer = bafirolen::header_body_len(draft);
+    bytes.assert_unchanged("bytes of a length");
+    tables.assert_unchanged("tables of a length");
+    let wanted = reference::header_body_len(
+        &their_numbers(draft.numbers),
+        draft.message_id,
+        draft.suite_data,
+        draft.text,
+        draft.pairs,
+        draft.keys,
+    );
+    let wanted = wanted.map(|length| length as usize).map_err(refused);
+    assert!(
+        answer == wanted,
+        "length {answer:?} against {wanted:?}: {:02X?}",
+        shown(draft)
+    );
+    answer
+}
+
+/// What the writer answers to an output of so many bytes: the refusal of the
+/// length; where there is none, 28 exactly if the output is shorter.
+pub fn foretold(length: Answer<usize>, room: usize) -> Answer<usize> {
+    match length {
+        Ok(length) if room < length => Err(Refusal::OutputTooShort),
+        answer => answer,
+    }
+}
+
+/// The outputs by which what is foretold is tried: a byte less than the length,
+/// just so many, and one more; or, of a refusal, none and plenty.
+pub fn rooms(draft: &Draft, length: Answer<usize>) -> Vec<usize> {
+    match length {
+        Ok(length) => [length - 1, length, length + 1]
+            .into_iter()
+            .filter(|room| *room <= LONGEST)
+            .collect(),
+        Err(_) => vec![0, plenty(draft)],
+    }
+}
+
+/// Room for all that the tables name, if they name what is there.
+fn plenty(draft: &Draft) -> usize {
+    let tables = [draft.pairs, draft.keys];
+    let places = tables.iter().flat_map(|table| table.chunks_exact(2));
+    let parts: u64 = places.map(|place| 2 + u64::from(place[1])).sum();
+    100 + parts.min(LONGEST as u64) as usize
+}
