@@ -38,16 +38,13 @@ use Rattle.checks.specs.Answers.{write-answer-of}
 use Rattle.checks.specs.Answers.{Writes as Answers}
 use Rattle.checks.specs.declared.WriteAnswer.{WriteAnswer}
 use Rattle.checks.specs.declared.WriteAnswer.the-variants as write
-use Rattle.body_write.specs.Lent.{size-answer-of}
-use Rattle.body_write.specs.declared.SizeAnswer.{SizeAnswer}
-use Rattle.body_write.specs.declared.SizeAnswer.the-variants as size
 use Rattle.only_authenticated.specs.Codes.{written-as, whole}
 use Rattle.bafirolen_c.specs.declared.BafirolenSection.{BafirolenSection}
 use Rattle.bafirolen_c.specs.declared.BafirolenAuth.{BafirolenAuth}
 use Rattle.bafirolen_c.specs.declared.BafirolenPlace.{BafirolenPlace}
 use Rattle.bafirolen_c.specs.declared.BafirolenWritten.{BafirolenWritten}
 use Rattle.bafirolen_c.specs.Asked.{which-asked, mode-asked, max-asked, request-asked}
-use Rattle.bafirolen_c.specs.Exports.{section-with, no-section, section-record, context-fields, keys-fields, frames-fields, auth-record, auth-fields, place-record, found-fields, wrote, written-record, write-fields, size-fields, image-record, Writes}
+use Rattle.bafirolen_c.specs.Exports.{section-with, no-section, section-record, context-fields, keys-fields, frames-fields, auth-record, auth-fields, place-record, found-fields, wrote, written-record, write-fields, image-record, Writes}
 
 -- a number that is tested
 module _ {A : Type 0} (n k : ℕ) (x y : A) where
@@ -95,12 +92,6 @@ write-done a n e r f = f ∙ sym (ap write-fields e)
 pub write-refused : (a : WriteAnswer) (q : Refusal) → a ≡ write.Refused q → (r : BafirolenWritten) → r ≡ wrote (q .number) (q .position) 0 → r ≡ write-fields a
 write-refused a q e r f = f ∙ sym (ap write-fields e)
 
-pub size-told : (a : SizeAnswer) (n : ℕ) → a ≡ size.Takes n → (r : BafirolenWritten) → r ≡ wrote 0 0 n → r ≡ size-fields a
-size-told a n e r f = f ∙ sym (ap size-fields e)
-
-pub size-refused : (a : SizeAnswer) (q : Refusal) → a ≡ size.Refused q → (r : BafirolenWritten) → r ≡ wrote (q .number) (q .position) 0 → r ≡ size-fields a
-size-refused a q e r f = f ∙ sym (ap size-fields e)
-
 -- the code's answer crosses as the definition's does
 context-as : (o : Answer (List PairAt)) → context-fields (context-of o) ≡ section-record o
 context-as (accepted ps t) = refl
@@ -125,10 +116,6 @@ found-as (refused k p) = refl
 write-as : (o : Answer (Unit {0})) → write-fields (write-answer-of o) ≡ written-record o
 write-as (accepted u n) = refl
 write-as (refused k p) = refl
-
-size-as : (o : Answer (Unit {0})) → size-fields (size-answer-of o) ≡ written-record o
-size-as (accepted u n) = refl
-size-as (refused k p) = refl
 
 -- a reader with a table
 module _ {A R S : Type 0} (code : Answer A → R) (fields : R → S) (crossed : Answer A → S) (agrees : (o : Answer A) → fields (code o) ≡ crossed o) where
@@ -159,8 +146,11 @@ auth-crosses o a r e f = e ∙ ap auth-fields f ∙ auth-as o
 pub found-crosses : (o : Answer Part) (a : FoundAnswer) (r : BafirolenPlace) → r ≡ found-fields a → a ≡ found-of o → r ≡ place-record o
 found-crosses o a r e f = e ∙ ap found-fields f ∙ found-as o
 
+pub answer-crosses : (o : Answer (Unit {0})) (a : WriteAnswer) → a ≡ write-answer-of o → (r : BafirolenWritten) → r ≡ write-fields a → r ≡ written-record o
+answer-crosses o a e r f = f ∙ ap write-fields e ∙ write-as o
+
 pub write-crosses : (w : Writing) (before after : List ℕ) (a : WriteAnswer) (r : BafirolenWritten) → r ≡ write-fields a → Answers w before after a → Writes w before after r
-write-crosses w before after a r e f = record { answer = e ∙ ap write-fields (f .answer) ∙ write-as (written w before); output = f .output }
+write-crosses w before after a r e f = record { answer = answer-crosses (written w before) a (f .answer) r e; output = f .output }
 
 image-as : (o : Answer (List ℕ)) → write-fields (written-as o) ≡ image-record o
 image-as (accepted image t) = refl
@@ -168,6 +158,3 @@ image-as (refused k p) = refl
 
 pub image-crosses : (o : Answer (List ℕ)) (before after : List ℕ) (a : WriteAnswer) → Reads written-as whole o before after a → (r : BafirolenWritten) → r ≡ write-fields a → Reads image-record whole o before after r
 image-crosses o before after a f r e = record { answer = e ∙ ap write-fields (f .answer) ∙ image-as o; table = f .table }
-
-pub size-crosses : (o : Answer (Unit {0})) (a : SizeAnswer) → a ≡ size-answer-of o → (r : BafirolenWritten) → r ≡ size-fields a → r ≡ written-record o
-size-crosses o a e r f = f ∙ ap size-fields e ∙ size-as o

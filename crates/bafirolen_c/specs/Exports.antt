@@ -27,8 +27,6 @@ use Rattle.body_reader.specs.declared.HeaderBodyAnswer.{HeaderBodyAnswer}
 use Rattle.body_reader.specs.declared.HeaderBodyAnswer.the-variants as body
 use Rattle.checks.specs.declared.WriteAnswer.{WriteAnswer}
 use Rattle.checks.specs.declared.WriteAnswer.the-variants as write
-use Rattle.body_write.specs.declared.SizeAnswer.{SizeAnswer}
-use Rattle.body_write.specs.declared.SizeAnswer.the-variants as size
 use Rattle.bafirolen_c.specs.declared.BafirolenSection.{BafirolenSection}
 use Rattle.bafirolen_c.specs.declared.BafirolenAuth.{BafirolenAuth}
 use Rattle.bafirolen_c.specs.declared.BafirolenBody.{BafirolenBody}
@@ -154,7 +152,7 @@ abbrev pub nothing-copied : FoundAnswer → BafirolenWritten
 nothing-copied (found.At s n) = wrote 0 0 0
 nothing-copied (found.Refused q) = wrote (q .number) (q .position) 0
 
--- what was written
+-- what was written, or would be
 abbrev pub written-record : Answer (Unit {0}) → BafirolenWritten
 written-record (accepted u n) = wrote 0 0 n
 written-record (refused k p) = wrote k p 0
@@ -162,11 +160,6 @@ written-record (refused k p) = wrote k p 0
 abbrev pub write-fields : WriteAnswer → BafirolenWritten
 write-fields (write.Written n) = wrote 0 0 n
 write-fields (write.Refused q) = wrote (q .number) (q .position) 0
-
--- what a write takes
-abbrev pub size-fields : SizeAnswer → BafirolenWritten
-size-fields (size.Takes n) = wrote 0 0 n
-size-fields (size.Refused q) = wrote (q .number) (q .position) 0
 
 -- an image that was written
 abbrev pub image-record : Answer (List ℕ) → BafirolenWritten

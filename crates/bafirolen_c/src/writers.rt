@@ -1,12 +1,11 @@
 // The four writers, and what a body takes before it is written. On a refusal the output is as it was.
 use crate::BafirolenWritten;
-use body_write::SizeAnswer;
 use checks::WriteAnswer;
 use fields::BodyNumbers;
 ghost use mathlib.Core.Path.{_≡_};
 ghost use Rattle.format.specs.Lent.{size-of, writing-aad-section, writing-encrypted-data-keys-section, writing-header-auth-tag, writing-header-body};
 ghost use Rattle.body_write.specs.Lent.{body-to-write};
-ghost use Rattle.bafirolen_c.specs.Exports.{Writes, wrote, write-fields, size-fields, written-record};
+ghost use Rattle.bafirolen_c.specs.Exports.{Writes, wrote, write-fields, written-record};
 
 pub fn wrote(number: u8, position: u64, length: u64) -> BafirolenWritten
     ensures { λ r. ⌜ r ≡ wrote number position length ⌝ }
@@ -24,15 +23,6 @@ pub fn written_record(a: WriteAnswer) -> BafirolenWritten
     match a {
         WriteAnswer::Written(n) => wrote(0, 0, n as u64),
         WriteAnswer::Refused(q) => wrote(q.number, q.position, 0),
-    }
-}
-
-fn size_record(a: SizeAnswer) -> BafirolenWritten
-    ensures { λ r. ⌜ r ≡ size-fields a ⌝ }
-{
-    match a {
-        SizeAnswer::Takes(n) => wrote(0, 0, n as u64),
-        SizeAnswer::Refused(q) => wrote(q.number, q.position, 0),
     }
 }
 
@@ -107,5 +97,5 @@ pub extern "C" fn bafirolen_header_body_len(
 ) -> BafirolenWritten
     ensures { λ r. ⌜ r ≡ written-record (size-of (writing-header-body (body-to-write numbers (now (messageId .entry)) (now (suiteData .entry)) (now (text .entry)) (now (pairs .entry)) (now (keys .entry))))) ⌝ }
 {
-    size_record(body_write::header_body_len(numbers, messageId, suiteData, text, pairs, keys))
+    written_record(body_write::header_body_len(numbers, messageId, suiteData, text, pairs, keys))
 }

@@ -1,15 +1,11 @@
--- What the body writer is lent, as the definition has it; the size that it is told; and the two ends of the image. Assumes nothing.
+-- What the body writer is lent, as the definition has it; and the two ends of the image. Assumes nothing.
 use mathlib.Core.Bool.{Bool}
 use mathlib.Core.List.{List, [], _∷_, _++_}
 use Prim.Native.Nat.{ℕ}
-use Rattle.format.specs.Read.{Answer, accepted, refused}
 use Rattle.format.specs.Body.{write-opening-of, write-closing-of}
 use Rattle.format.specs.Lent.{BodyToWrite}
-use Rattle.wire.specs.Codes.{because}
 use Rattle.fields.specs.Codes.{form-of, form-named}
 use Rattle.fields.specs.declared.BodyNumbers.{BodyNumbers}
-use Rattle.body_write.specs.declared.SizeAnswer.{SizeAnswer}
-use Rattle.body_write.specs.declared.SizeAnswer.the-variants.{Takes, Refused}
 
 unfoldable pub body-to-write : BodyNumbers → List ℕ → List ℕ → List ℕ → List ℕ → List ℕ → BodyToWrite
 body-to-write n messageId suiteData text pairs keys =
@@ -27,10 +23,6 @@ body-to-write n messageId suiteData text pairs keys =
       pairTable = pairs;
       keyTable = keys;
     }
-
-abbrev pub size-answer-of : Answer (Unit {0}) → SizeAnswer
-size-answer-of (accepted u n) = Takes n
-size-answer-of (refused k p) = Refused (because k p)
 
 -- before the context section; true: version 1
 unfoldable pub write-opening : Bool → ℕ → ℕ → ℕ → List ℕ → List ℕ

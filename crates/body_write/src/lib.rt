@@ -17,7 +17,6 @@ use section_write::aad_section_size;
 use section_write::keys_section_size;
 use section_write::put_aad_section;
 use section_write::put_keys_section;
-use wire::Refusal;
 use wire::refusals::OUTPUT_TOO_SHORT;
 use wire::refusals::PAIR_IN_OLD_FORM;
 ghost use mathlib.Core.Path.{_≡_};
@@ -28,16 +27,10 @@ ghost use Rattle.format.specs.Context.{section-in};
 ghost use Rattle.format.specs.Checks.{first, form-checks};
 ghost use Rattle.format.specs.Lent.{pairs-in, size-of, writing-encrypted-data-keys-section, writing-header-body};
 ghost use Rattle.wire.specs.Stored.{stored};
-ghost use Rattle.checks.specs.Answers.{checked, Writes};
+ghost use Rattle.checks.specs.Answers.{checked, write-answer-of, Writes};
 ghost use Rattle.fields.specs.Codes.{form-of};
-ghost use Rattle.body_write.specs.Lent.{body-to-write, size-answer-of};
+ghost use Rattle.body_write.specs.Lent.{body-to-write};
 ghost use Rattle.body_write.specs.Ready.{body-size, Small, SectionsReady, BodyReady};
-
-// What is told before there is an output: the length of the image, or the first refusal but for 28.
-pub enum SizeAnswer {
-    Takes(usize),
-    Refused(Refusal),
-}
 
 // 33: a record marked old has a pair.
 fn check_form(form: Form, pairs: usize) -> Checked
@@ -137,7 +130,8 @@ fn put_body(
     );
 }
 
-// What a body takes: 3; 5; 6; 7; 24; the pairs'; 33; the keys'; 17; 19; 25; 20; else the length of its image, in the form of the mark.
+// What a writer with an output that is long enough answers: 3; 5; 6; 7; 24; the pairs'; 33; the keys'; 17; 19; 25; 20; else the length of
+// the image, in the form of the mark.
 pub fn header_body_len(
     numbers: BodyNumbers,
     messageId: &[u8],
@@ -145,15 +139,15 @@ pub fn header_body_len(
     text: &[u8],
     pairs: &[u32],
     keys: &[u32],
-) -> SizeAnswer
-    ensures { λ r. ⌜ r ≡ size-answer-of (size-of (writing-header-body (body-to-write numbers (now (messageId .entry)) (now (suiteData .entry)) (now (text .entry)) (now (pairs .entry)) (now (keys .entry))))) ⌝ }
+) -> WriteAnswer
+    ensures { λ r. ⌜ r ≡ write-answer-of (size-of (writing-header-body (body-to-write numbers (now (messageId .entry)) (now (suiteData .entry)) (now (text .entry)) (now (pairs .entry)) (now (keys .entry))))) ⌝ }
 {
     let c = check_body(numbers, messageId, suiteData, text, pairs, keys);
     if let Checked::Fails(r) = c {
-        return SizeAnswer::Refused(r);
+        return WriteAnswer::Refused(r);
     }
     let form = form_named(numbers.form);
-    SizeAnswer::Takes(body_size(numbers.version, form, pairs, keys))
+    WriteAnswer::Written(body_size(numbers.version, form, pairs, keys))
 }
 
 // Write a body: what header_body_len refuses; 28.
@@ -170,8 +164,8 @@ pub fn write_header_body(
 {
     let s = header_body_len(numbers, messageId, suiteData, text, pairs, keys);
     match s {
-        SizeAnswer::Refused(r) => WriteAnswer::Refused(r),
-        SizeAnswer::Takes(size) => {
+        WriteAnswer::Refused(r) => WriteAnswer::Refused(r),
+        WriteAnswer::Written(size) => {
             if out.len() < size {
                 return refuses(OUTPUT_TOO_SHORT);
             }

@@ -1,11 +1,12 @@
 -- Laws of the ways out of a writer, and of stores one behind another. Assumes nothing.
 use Prim.Native.Nat.{ℕ, _+_, _≤_, _<_}
 use native.Mathlib.Nat.{zero-add}
-use mathlib.Core.Path.{_≡_, sym, ap, _∙_}
+use native.Mathlib.Omega.{arith}
+use mathlib.Core.Path.{_≡_, refl, sym, ap, _∙_}
 use mathlib.Core.List.{List, _++_}
 use lib.ListN.{length, take, drop}
 use lib.Seq.{take-length}
-use Rattle.format.specs.Read.{accepted, refused}
+use Rattle.format.specs.Read.{Answer, accepted, refused}
 use Rattle.format.specs.Checks.{first}
 use Rattle.format.specs.Lent.{Writing, size-of, filled}
 use Rattle.format.proofs.Writers.{writer-law}
@@ -14,7 +15,7 @@ use Rattle.wire.specs.Codes.{because}
 use Rattle.wire.specs.Stored.{stored}
 use Rattle.wire.specs.declared.Refusal.{Refusal}
 use Rattle.wire.proofs.StoreLaws.{stored-more, length-stored}
-use Rattle.checks.specs.Answers.{checked, Writes}
+use Rattle.checks.specs.Answers.{checked, write-answer-of, Writes}
 use Rattle.checks.specs.declared.Checked.{Checked}
 use Rattle.checks.specs.declared.Checked.the-variants.{Passes, Fails}
 use Rattle.checks.specs.declared.WriteAnswer.{WriteAnswer}
@@ -25,6 +26,15 @@ use Rattle.checks.proofs.Stages.{stage-none, stage-some}
 pub stored-first : (out image : List ℕ) → stored out 0 image ≡ filled image out
 unfolding stored
 stored-first out image = rw zero-add
+
+-- what the code's answer says of the definition's
+pub written-is : (r : WriteAnswer) (o : Answer (Unit {0})) → r ≡ write-answer-of o → (n : ℕ) → r ≡ Written n → o ≡ accepted tt n
+written-is r (accepted u m) e n f = let z : m ≡ n = cc in rw z refl
+written-is r (refused k p) e n f = let z : _≡_ {A = ℕ} 0 1 = cc in absurd (omega arith)
+
+pub refused-is : (r : WriteAnswer) (o : Answer (Unit {0})) → r ≡ write-answer-of o → (q : Refusal) → r ≡ Refused q → o ≡ refused (q .number) (q .position)
+refused-is r (accepted u n) e q f = let z : _≡_ {A = ℕ} 0 1 = cc in absurd (omega arith)
+refused-is r (refused k p) e q f = let z : because k p ≡ q = cc in rw (sym z) refl
 
 -- by the size that is told of what a writer is to write
 module _ (w : Writing) (out : List ℕ) where
@@ -42,6 +52,17 @@ module _ (w : Writing) (out : List ℕ) where
         let a = size-law w .reports n told out h in
         let (c, d, room, o) = writer-law w out .only-then n a in
         record { answer = rw a; output = q ∙ stored-first out (w .image) ∙ sym o }
+
+module _ (w : Writing) (s : WriteAnswer) (is : s ≡ write-answer-of (size-of w)) (out : List ℕ) where
+  pub sized-refuses : (r : Refusal) → s ≡ Refused r → Writes w out out (Refused r)
+  sized-refuses r e = told-refuses w out (r .number) (r .position) (refused-is s (size-of w) is r e)
+
+  module _ (n : ℕ) (e : s ≡ Written n) where
+    pub sized-28 : length out < n → (a : WriteAnswer) → a ≡ Refused (because 28 0) → Writes w out out a
+    sized-28 = told-28 w out n (written-is s (size-of w) is n e)
+
+    pub sized-all : n ≤ length out → (after : List ℕ) → after ≡ stored out 0 (w .image) → Writes w out after (Written n)
+    sized-all = told-all w out n (written-is s (size-of w) is n e)
 
 -- by what the checks found, and the length of the image
 module _ (w : Writing) (out : List ℕ) (c : Checked) (is : c ≡ checked (first (w .checks))) where

@@ -15,7 +15,8 @@ pub enum Checked {
     Fails(Refusal),
 }
 
-// What a writer answers: the length of the image that it wrote, or the refusal, with the output as it was.
+// What a writer answers: the length of the image that it wrote, or the refusal, with the output as it was. Before there is an output, what
+// it would answer to one that is long enough.
 pub enum WriteAnswer {
     Written(usize),
     Refused(Refusal),

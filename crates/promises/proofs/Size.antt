@@ -10,16 +10,14 @@ use Rattle.format.proofs.Size.{size-laws}
 use Rattle.wire.specs.Codes.{because}
 use Rattle.wire.specs.declared.Refusal.{Refusal}
 use Rattle.checks.specs.Answers.{write-answer-of}
-use Rattle.checks.specs.declared.WriteAnswer.the-variants as write
-use Rattle.body_write.specs.Lent.{body-to-write, size-answer-of}
-use Rattle.body_write.specs.declared.SizeAnswer.{SizeAnswer}
-use Rattle.body_write.specs.declared.SizeAnswer.the-variants.{Takes, Refused}
-use Rattle.body_write.proofs.Sizes.{takes-is, refused-is}
+use Rattle.checks.specs.declared.WriteAnswer.{WriteAnswer}
+use Rattle.checks.specs.declared.WriteAnswer.the-variants.{Written, Refused}
+use Rattle.checks.proofs.Writers.{written-is, refused-is}
+use Rattle.body_write.specs.Lent.{body-to-write}
 use Rattle.promises.specs.Writer.{Write, lent, its-image, MeetsWriter}
 use Rattle.promises.specs.Size.{MeetsSize, Told, SizePromises}
-use Rattle.promises.proofs.Writer.{written-is, refusal-is}
 
-module _ (w : Write) (s : SizeAnswer) (size : MeetsSize w s) (call : MeetsWriter w) where
+module _ (w : Write) (s : WriteAnswer) (size : MeetsSize w s) (call : MeetsWriter w) where
   abbrev writing : Writing
   writing = writing-header-body (lent w)
 
@@ -29,10 +27,10 @@ module _ (w : Write) (s : SizeAnswer) (size : MeetsSize w s) (call : MeetsWriter
   told-refused : (q : Refusal) → s ≡ Refused q → size-of writing ≡ refused (q .number) (q .position)
   told-refused q e = refused-is s (size-of writing) size q e
 
-  told-length : (n : ℕ) → s ≡ Takes n → size-of writing ≡ accepted tt n
-  told-length n e = takes-is s (size-of writing) size n e
+  told-length : (n : ℕ) → s ≡ Written n → size-of writing ≡ accepted tt n
+  told-length n e = written-is s (size-of writing) size n e
 
-  reports : (n : ℕ) → s ≡ Takes n → n ≤ length (w .before) → (w .answer ≡ write.Written n) × (n ≡ length (its-image w)) × (w .after ≡ filled (its-image w) (w .before))
+  reports : (n : ℕ) → s ≡ Written n → n ≤ length (w .before) → (w .answer ≡ Written n) × (n ≡ length (its-image w)) × (w .after ≡ filled (its-image w) (w .before))
   unfolding writing-header-body body-to-write
   reports n e h =
       let a = law .reports n (told-length n e) (w .before) h in
@@ -46,12 +44,12 @@ module _ (w : Write) (s : SizeAnswer) (size : MeetsSize w s) (call : MeetsWriter
         too-short = λ n e.
             (let short = law .too-short n (told-length n e) (w .before) in
             record {
-              onward = λ a. short .onward (refusal-is (w .answer) _ (call .answer) (because 28 0) a);
+              onward = λ a. short .onward (refused-is (w .answer) _ (call .answer) (because 28 0) a);
               back = λ h. call .answer ∙ ap write-answer-of (short .back h);
             });
         reports = reports;
-        refusal-told = λ q a other. size ∙ ap size-answer-of (law .refusal-given (w .before) _ _ (refusal-is (w .answer) _ (call .answer) q a) other);
-        length-told = λ n a. size ∙ ap size-answer-of (law .length-given (w .before) n (written-is (w .answer) _ (call .answer) n a));
+        refusal-told = λ q a other. size ∙ ap write-answer-of (law .refusal-given (w .before) _ _ (refused-is (w .answer) _ (call .answer) q a) other);
+        length-told = λ n a. size ∙ ap write-answer-of (law .length-given (w .before) n (written-is (w .answer) _ (call .answer) n a));
         listed = λ q e. size-laws .listed (lent w) _ _ (told-refused q e);
       }
 

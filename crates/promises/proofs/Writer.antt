@@ -6,7 +6,6 @@ use mathlib.Core.Bool.{true}
 use mathlib.Core.Option.{Option, none, some}
 use mathlib.Core.List.{List}
 use lib.ListN.{length}
-use Rattle.format.specs.Read.{Answer, accepted, refused}
 use Rattle.format.specs.Fields.{HeaderBody as BodyRead}
 use Rattle.format.specs.Context.{tolerant}
 use Rattle.format.specs.Keys.{Max, within}
@@ -21,18 +20,11 @@ use Rattle.wire.specs.declared.Refusal.{Refusal}
 use Rattle.checks.specs.Answers.{write-answer-of, Writes}
 use Rattle.checks.specs.declared.WriteAnswer.{WriteAnswer}
 use Rattle.checks.specs.declared.WriteAnswer.the-variants.{Written, Refused}
+use Rattle.checks.proofs.Writers.{written-is}
 use Rattle.body_write.specs.Lent.{body-to-write}
 use Rattle.promises.specs.Reader.{Call, reading, Meets, Accepts}
 use Rattle.promises.specs.Writer.{all-checks, ByChecks, Write, lent, fields, mark, its-image, MeetsWriter, NoneApplies, Sentence4, WriterPromises}
 use Rattle.promises.proofs.Reader.{accepts}
-
-pub written-is : (r : WriteAnswer) (o : Answer (Unit {0})) → r ≡ write-answer-of o → (n : ℕ) → r ≡ Written n → o ≡ accepted tt n
-written-is r (accepted u m) e n f = let z : m ≡ n = cc in rw z refl
-written-is r (refused k p) e n f = let z : _≡_ {A = ℕ} 0 1 = cc in absurd (omega arith)
-
-pub refusal-is : (r : WriteAnswer) (o : Answer (Unit {0})) → r ≡ write-answer-of o → (q : Refusal) → r ≡ Refused q → o ≡ refused (q .number) (q .position)
-refusal-is r (accepted u n) e q f = let z : _≡_ {A = ℕ} 0 1 = cc in absurd (omega arith)
-refusal-is r (refused k p) e q f = let z : because k p ≡ q = cc in rw (sym z) refl
 
 -- every writer: by the first of its checks that fails
 module _ (w : Writing) (before after : List ℕ) (r : WriteAnswer) (call : Writes w before after r) where

@@ -9,27 +9,26 @@ use Rattle.format.specs.Lengths.{JustWhere}
 use Rattle.format.specs.Size.{size-refusals}
 use Rattle.wire.specs.Codes.{because}
 use Rattle.wire.specs.declared.Refusal.{Refusal}
-use Rattle.checks.specs.declared.WriteAnswer.the-variants as write
-use Rattle.body_write.specs.Lent.{size-answer-of}
-use Rattle.body_write.specs.declared.SizeAnswer.{SizeAnswer}
-use Rattle.body_write.specs.declared.SizeAnswer.the-variants.{Takes, Refused}
+use Rattle.checks.specs.Answers.{write-answer-of}
+use Rattle.checks.specs.declared.WriteAnswer.{WriteAnswer}
+use Rattle.checks.specs.declared.WriteAnswer.the-variants.{Written, Refused}
 use Rattle.promises.specs.Writer.{Write, lent, its-image, MeetsWriter}
 
 -- a call of `header_body_len`, handed what the writer is, meets its contract
-abbrev pub MeetsSize : Write → SizeAnswer → Type 0
-MeetsSize w s = s ≡ size-answer-of (size-of (writing-header-body (lent w)))
+abbrev pub MeetsSize : Write → WriteAnswer → Type 0
+MeetsSize w s = s ≡ write-answer-of (size-of (writing-header-body (lent w)))
 
-pub record Told (w : Write) (s : SizeAnswer) : Type 0 where
+pub record Told (w : Write) (s : WriteAnswer) : Type 0 where
   -- where it tells a refusal, the writer answers it, and leaves the output as it was
-  pub refuses : (q : Refusal) → s ≡ Refused q → (w .answer ≡ write.Refused q) × (w .after ≡ w .before)
+  pub refuses : (q : Refusal) → s ≡ Refused q → (w .answer ≡ Refused q) × (w .after ≡ w .before)
   -- where it tells a length, the writer answers 28 exactly when the output is shorter, and otherwise writes the image and reports that length
-  pub too-short : (n : ℕ) → s ≡ Takes n → JustWhere (w .answer ≡ write.Refused (because 28 0)) (length (w .before) < n)
-  pub reports : (n : ℕ) → s ≡ Takes n → n ≤ length (w .before) → (w .answer ≡ write.Written n) × (n ≡ length (its-image w)) × (w .after ≡ filled (its-image w) (w .before))
+  pub too-short : (n : ℕ) → s ≡ Written n → JustWhere (w .answer ≡ Refused (because 28 0)) (length (w .before) < n)
+  pub reports : (n : ℕ) → s ≡ Written n → n ≤ length (w .before) → (w .answer ≡ Written n) × (n ≡ length (its-image w)) × (w .after ≡ filled (its-image w) (w .before))
   -- and back: what the writer answers other than 28 was told
-  pub refusal-told : (q : Refusal) → w .answer ≡ write.Refused q → (q .number ≡ 28 → ⊥) → s ≡ Refused q
-  pub length-told : (n : ℕ) → w .answer ≡ write.Written n → s ≡ Takes n
+  pub refusal-told : (q : Refusal) → w .answer ≡ Refused q → (q .number ≡ 28 → ⊥) → s ≡ Refused q
+  pub length-told : (n : ℕ) → w .answer ≡ Written n → s ≡ Written n
   -- a refusal told is of the list, so never 28, and its position is 0
   pub listed : (q : Refusal) → s ≡ Refused q → List·Memᴰ (q .number) size-refusals × (q .number ≡ 28 → ⊥) × (q .position ≡ 0)
 
 pub record SizePromises : Type 0 where
-  pub told : (w : Write) (s : SizeAnswer) → MeetsSize w s → MeetsWriter w → Told w s
+  pub told : (w : Write) (s : WriteAnswer) → MeetsSize w s → MeetsWriter w → Told w s

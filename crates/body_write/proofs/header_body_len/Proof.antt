@@ -1,9 +1,9 @@
-use Rattle.body_write.proofs.Sizes.{size-fails, size-small, size-takes}
+use Rattle.body_write.proofs.Sizes.{size-fails, size-small, size-written}
 use borrow.Author.Needs.{needs}
 use Rattle.body_write.proofs.header_body_len.Statement.{statement}
 use Rattle.body_write.proofs.header_body_len.Tie as tie
 
-ruleset laws = (size-fails, size-small, size-takes, needs)
+ruleset laws = (size-fails, size-small, size-written, needs)
 
 pub header-body-len-spec : {M : Type 1} → statement M
 header-body-len-spec = tie.close (tie.spec (λ c κs. search laws) (λ c. search laws) (λ c. search laws) (λ c. search laws) (λ c κs. search laws) (λ c κs. search laws) (λ c. search laws))

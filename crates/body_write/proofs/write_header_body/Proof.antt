@@ -1,4 +1,5 @@
-use Rattle.body_write.proofs.Sizes.{sized-refuses, sized-28, sized-ready, sized-all}
+use Rattle.checks.proofs.Writers.{sized-refuses, sized-28, sized-all}
+use Rattle.body_write.proofs.Sizes.{sized-ready}
 use borrow.Author.Needs.{needs}
 use Rattle.body_write.proofs.write_header_body.Statement.{statement}
 use Rattle.body_write.proofs.write_header_body.Tie as tie
