@@ -8,7 +8,7 @@ use lib.Dec.{eqb}
 use lib.ListN.{length, take, drop, length-append}
 use borrow.Author.Tests.{eqb-true, ne-eqb}
 use Rattle.format.specs.Shared.{by, known}
-use Rattle.format.specs.Checks.{first, auth-checks}
+use Rattle.format.specs.Checks.{first, sealed-checks, auth-checks}
 use Rattle.format.specs.Auth.{write-header-auth-tag}
 use Rattle.format.specs.Lent.{writing-header-auth-tag}
 use Rattle.format.proofs.Firsts.{holds, first-pass, first-stop}
@@ -26,7 +26,7 @@ use Rattle.checks.specs.declared.WriteAnswer.{WriteAnswer}
 use Rattle.checks.specs.declared.WriteAnswer.the-variants.{Refused}
 use Rattle.checks.proofs.Stages.{stage-none}
 use Rattle.checks.proofs.Writers.{chain, whole-bytes, writes-fails}
-use Rattle.auth_write.specs.Ready.{length-checks, auth-image, AuthReady}
+use Rattle.auth_write.specs.Ready.{auth-image, AuthReady}
 
 -- by version
 module _ (version : ℕ) where
@@ -62,10 +62,9 @@ long true iv tag e f = simp length-append (omega arith)
 long false iv tag e f = sym f
 
 -- what checks that passed give
-module _ (iv tag : List ℕ) (c : Checked) (is : c ≡ checked (first (length-checks (length iv) (length tag)))) (e : c ≡ Passes) where
+module _ (iv tag : List ℕ) (c : Checked) (is : c ≡ checked (first (sealed-checks (length iv) (length tag)))) (e : c ≡ Passes) where
   lengths : (length iv ≡ 12) × (length tag ≡ 16)
-  unfolding length-checks
-  lengths = let h = holds (length-checks (length iv) (length tag)) (stage-none _ c is e) in (eqb-true _ _ (h .0), eqb-true _ _ (h .1 .0))
+  lengths = let h = holds (sealed-checks (length iv) (length tag)) (stage-none _ c is e) in (eqb-true _ _ (h .0), eqb-true _ _ (h .1 .0))
 
   pub auth-ready : (version n room : ℕ) → n ≡ by version 28 16 → n ≤ room → AuthReady version iv tag room
   auth-ready version n room q h = record { ivLong = lengths .0; tagLong = lengths .1; fits = rw q at h }
@@ -78,8 +77,8 @@ module _ (suite : ℕ) (iv tag : List ℕ) (x : SuiteAnswer) (x-is : x ≡ suite
       rw q (writes-fails (writing-header-auth-tag suite iv tag) out (Fails (because 6 0)) (sym (ap checked (first-stop 6 (known suite) _ (unknown suite x x-is e)))) (because 6 0) refl)
 
   module _ (k : Suite) (got : x ≡ Known k) where
-    pub auth-checked : (c : Checked) → c ≡ checked (first (length-checks (length iv) (length tag))) → c ≡ checked (first (writing-header-auth-tag suite iv tag .checks))
-    unfolding writing-header-auth-tag auth-checks length-checks
+    pub auth-checked : (c : Checked) → c ≡ checked (first (sealed-checks (length iv) (length tag))) → c ≡ checked (first (writing-header-auth-tag suite iv tag .checks))
+    unfolding writing-header-auth-tag auth-checks
     auth-checked c is = is ∙ sym (ap checked (first-pass 6 (known suite) _ (in-table suite x x-is k got)))
 
     image-as : auth-image (k .version) iv tag ≡ writing-header-auth-tag suite iv tag .image
@@ -89,7 +88,7 @@ module _ (suite : ℕ) (iv tag : List ℕ) (x : SuiteAnswer) (x-is : x ≡ suite
     pub auth-stored : (out after : List ℕ) → after ≡ stored out 0 (auth-image (k .version) iv tag) → after ≡ stored out 0 (writing-header-auth-tag suite iv tag .image)
     auth-stored out after q = q ∙ ap (stored out 0) image-as
 
-    pub auth-length : (c : Checked) → c ≡ checked (first (length-checks (length iv) (length tag))) → c ≡ Passes → (n : ℕ) → n ≡ by (k .version) 28 16
+    pub auth-length : (c : Checked) → c ≡ checked (first (sealed-checks (length iv) (length tag))) → c ≡ Passes → (n : ℕ) → n ≡ by (k .version) 28 16
         → n ≡ length (writing-header-auth-tag suite iv tag .image)
     unfolding auth-image
     auth-length c is e n q = let (i, t) = lengths iv tag c is e in q ∙ long (eqb (k .version) 1) iv tag i t ∙ ap length image-as

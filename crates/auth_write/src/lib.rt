@@ -1,36 +1,20 @@
 // Writes an authentication record.
 use checks::Checked;
 use checks::WriteAnswer;
-use checks::fails;
 use checks::refuses;
+use checks::sealed::check_sealed;
 use suites::Suite;
 use suites::SuiteAnswer;
-use wire::refusals::IV_LENGTH;
 use wire::refusals::OUTPUT_TOO_SHORT;
-use wire::refusals::TAG_LENGTH;
 use wire::refusals::UNKNOWN_SUITE;
 use wire::writing::write;
 ghost use mathlib.Core.Path.{_≡_};
 ghost use lib.ListN.{length};
 ghost use Rattle.format.specs.Shared.{by};
-ghost use Rattle.format.specs.Checks.{first};
 ghost use Rattle.format.specs.Lent.{writing-header-auth-tag};
 ghost use Rattle.wire.specs.Stored.{stored};
-ghost use Rattle.checks.specs.Answers.{checked, Writes};
-ghost use Rattle.auth_write.specs.Ready.{length-checks, auth-image, AuthReady};
-
-// 19; 30.
-fn check_lengths(iv: usize, tag: usize) -> Checked
-    ensures { λ r. ⌜ r ≡ checked (first (length-checks iv tag)) ⌝ }
-{
-    if iv != Suite::IV_LEN {
-        return fails(IV_LENGTH);
-    }
-    if tag != Suite::TAG_LEN {
-        return fails(TAG_LENGTH);
-    }
-    Checked::Passes
-}
+ghost use Rattle.checks.specs.Answers.{Writes};
+ghost use Rattle.auth_write.specs.Ready.{auth-image, AuthReady};
 
 // How many bytes the record takes: version 2 has no IV.
 fn auth_size(version: u8) -> usize
@@ -62,7 +46,7 @@ pub fn write_header_auth_tag(suite: u32, iv: &[u8], tag: &[u8], out: &mut [u8]) 
     let SuiteAnswer::Known(known) = s else {
         return refuses(UNKNOWN_SUITE);
     };
-    let c = check_lengths(iv.len(), tag.len());
+    let c = check_sealed(iv.len(), tag.len());
     if let Checked::Fails(r) = c {
         return WriteAnswer::Refused(r);
     }

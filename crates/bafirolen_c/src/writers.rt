@@ -1,9 +1,9 @@
-// The four writers, and what a body takes before it is written. On a refusal the output is as it was.
+// The five writers, and what a body or frames take before they are written. On a refusal the output is as it was.
 use crate::BafirolenWritten;
 use checks::WriteAnswer;
 use fields::BodyNumbers;
 ghost use mathlib.Core.Path.{_≡_};
-ghost use Rattle.format.specs.Lent.{size-of, writing-aad-section, writing-encrypted-data-keys-section, writing-header-auth-tag, writing-header-body};
+ghost use Rattle.format.specs.Lent.{size-of, writing-aad-section, writing-encrypted-data-keys-section, writing-header-auth-tag, writing-header-body, writing-frames};
 ghost use Rattle.body_write.specs.Lent.{body-to-write};
 ghost use Rattle.bafirolen_c.specs.Exports.{Writes, wrote, write-fields, written-record};
 
@@ -98,4 +98,29 @@ pub extern "C" fn bafirolen_header_body_len(
     ensures { λ r. ⌜ r ≡ written-record (size-of (writing-header-body (body-to-write numbers (now (messageId .entry)) (now (suiteData .entry)) (now (text .entry)) (now (pairs .entry)) (now (keys .entry))))) ⌝ }
 {
     written_record(body_write::header_body_len(numbers, messageId, suiteData, text, pairs, keys))
+}
+
+// Six numbers a frame in the table, places of the text. The last entry becomes the final frame.
+#[no_mangle]
+pub extern "C" fn bafirolen_write_frames(
+    frameLength: u32,
+    text: &[u8],
+    frames: &[u32],
+    out: &mut [u8],
+) -> BafirolenWritten
+    ensures { λ r. ⌜ Writes (writing-frames frameLength (now (text .entry)) (now (frames .entry))) (now (out .entry)) (now (out .exit)) r ⌝ }
+{
+    written_record(frames_write::write_frames(frameLength, text, frames, out))
+}
+
+// What bafirolen_write_frames will answer, but for 28.
+#[no_mangle]
+pub extern "C" fn bafirolen_frames_len(
+    frameLength: u32,
+    text: &[u8],
+    frames: &[u32],
+) -> BafirolenWritten
+    ensures { λ r. ⌜ r ≡ written-record (size-of (writing-frames frameLength (now (text .entry)) (now (frames .entry)))) ⌝ }
+{
+    written_record(frames_write::frames_len(frameLength, text, frames))
 }

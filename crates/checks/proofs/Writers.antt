@@ -3,13 +3,14 @@ use Prim.Native.Nat.{ℕ, _+_, _≤_, _<_}
 use native.Mathlib.Nat.{zero-add}
 use native.Mathlib.Omega.{arith}
 use mathlib.Core.Path.{_≡_, refl, sym, ap, _∙_}
+use mathlib.Core.Option.{none}
 use mathlib.Core.List.{List, _++_}
 use lib.ListN.{length, take, drop}
 use lib.Seq.{take-length}
 use Rattle.format.specs.Read.{Answer, accepted, refused}
 use Rattle.format.specs.Checks.{first}
 use Rattle.format.specs.Lent.{Writing, size-of, filled}
-use Rattle.format.proofs.Writers.{writer-law}
+use Rattle.format.proofs.Writers.{of-accepted, writer-law}
 use Rattle.format.proofs.Size.{size-law}
 use Rattle.wire.specs.Codes.{because}
 use Rattle.wire.specs.Stored.{stored}
@@ -35,6 +36,18 @@ written-is r (refused k p) e n f = let z : _≡_ {A = ℕ} 0 1 = cc in absurd (o
 pub refused-is : (r : WriteAnswer) (o : Answer (Unit {0})) → r ≡ write-answer-of o → (q : Refusal) → r ≡ Refused q → o ≡ refused (q .number) (q .position)
 refused-is r (accepted u n) e q f = let z : _≡_ {A = ℕ} 0 1 = cc in absurd (omega arith)
 refused-is r (refused k p) e q f = let z : because k p ≡ q = cc in rw (sym z) refl
+
+-- what is told, by what the checks found
+module _ (w : Writing) (c : Checked) (is : c ≡ checked (first (w .checks))) where
+  pub size-fails : (r : Refusal) → c ≡ Fails r → Refused r ≡ write-answer-of (size-of w)
+  size-fails r e = let (k, q, f) = stage-some (w .checks) c is r e in rw q (ap Refused (cc))
+
+  pub size-told : c ≡ Passes → (n : ℕ) → n ≡ length (w .image) → Written n ≡ write-answer-of (size-of w)
+  size-told e n q = rw (stage-none (w .checks) c is e) (ap Written q)
+
+-- and what a length that was told says of them
+pub told-none : (w : Writing) (s : WriteAnswer) → s ≡ write-answer-of (size-of w) → (n : ℕ) → s ≡ Written n → (first (w .checks) ≡ none) × (n ≡ length (w .image))
+told-none w s is n e = of-accepted (w .image) (first (w .checks)) n (written-is s (size-of w) is n e)
 
 -- by the size that is told of what a writer is to write
 module _ (w : Writing) (out : List ℕ) where

@@ -1,6 +1,7 @@
 // What writers test before they store anything, and what they answer.
 pub mod keys;
 pub mod pairs;
+pub mod sealed;
 mod seen;
 pub mod tables;
 

@@ -68,7 +68,7 @@ module _ (m table : List ℕ) where
       → items (key-in m table) 6 (length ks) at ≡ map key-of ks
   keys-there = three-there (λ k. k .keyProviderId) (λ k. k .keyProviderInfo) (λ k. k .ciphertext) (λ a b c. record { keyProviderId = a; keyProviderInfo = b; ciphertext = c })
 
-  frames-there : (fs : List FrameAt) (l : List ℕ) (at : ℕ) → Each (Held m) (images frame-places fs) → drop at table ≡ frame-numbers fs ++ l
+  pub frames-there : (fs : List FrameAt) (l : List ℕ) (at : ℕ) → Each (Held m) (images frame-places fs) → drop at table ≡ frame-numbers fs ++ l
       → items (frame-in m table) 6 (length fs) at ≡ map frame-of fs
   frames-there = three-there (λ f. f .iv) (λ f. f .content) (λ f. f .tag) (λ a b c. record { iv = a; content = b; tag = c })
 

@@ -41,6 +41,13 @@ module _ (m : List ℕ) where
   pub held : (s : ℕ) (b : List ℕ) → Here m s b → bytes-at m s (length b) ≡ b
   held s b h = rw (h .is) (take-append-seam b (h .after))
 
+  -- where s is a place of the message, so is that behind the bytes
+  pub reached : (s : ℕ) (b : List ℕ) → s ≤ length m → Here m s b → s + length b ≤ length m
+  reached s b le h =
+      let d : length m - s ≡ length (b ++ h .after) = sym (length-drop s m) ∙ ap length (h .is) in
+      let a = length-append b (h .after) in
+      omega arith
+
   entry-held : (s : ℕ) (bytes : List ℕ) → Here m s (write-short-length-seq bytes) → Held m (entry-at s bytes)
   unfolding write-short-length-seq
   entry-held s bytes h = held (s + 2) bytes (rw length-uint16 at (right s (write-uint16 (length bytes)) bytes h))

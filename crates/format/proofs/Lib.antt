@@ -47,6 +47,7 @@ pub mod Lengths
 pub mod Tables
 pub mod Filled
 pub mod WrittenBack
+pub mod FramesWritten
 pub mod Pinned
 pub mod KeyOrder
 pub mod SelectionLaws

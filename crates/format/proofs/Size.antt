@@ -3,7 +3,7 @@ use mathlib.Core.Path.{_≡_, refl, sym, ap, _∙_}
 use mathlib.Core.Bool.{Bool, true, false}
 use mathlib.Core.Option.{Option, none, some}
 use mathlib.Core.Logic.{_⊎_, inl, inr}
-use mathlib.Core.List.{List, [], _∷_, _++_, List·Memᴰ}
+use mathlib.Core.List.{List, [], _∷_, _++_, map}
 use Prim.Native.Nat.{ℕ, _+_, _≤_, _<_}
 use native.Mathlib.Omega.{arith}
 use lib.Dec.{leb, eqb}
@@ -11,13 +11,13 @@ use lib.ListN.{length, length-append}
 use Rattle.format.specs.Read.{accepted, refused}
 use Rattle.format.specs.Fields.{Form, today, old, Pair, EncryptedDataKey}
 use Rattle.format.specs.Body.{image}
-use Rattle.format.specs.Checks.{Check, first, pair-checks, key-checks, pairs-checks, keys-checks, body-checks}
-use Rattle.format.specs.Lent.{Writing, refusal-of, written-of, written, size-of, table-checks, BodyToWrite, fields-to-write, writing-header-body}
+use Rattle.format.specs.Checks.{Check, first, pair-checks, key-checks, frame-checks, content-checks, content-length, pairs-checks, keys-checks, body-checks, frames-checks}
+use Rattle.format.specs.Lent.{Writing, refusal-of, written-of, written, size-of, table-checks, frames-in, BodyToWrite, fields-to-write, writing-header-body, writing-frames}
 use Rattle.format.specs.Demand3.{the-old, mark-by}
-use Rattle.format.specs.Size.{SizeLaw, size-refusals, marked, longer, SizeLaws}
+use Rattle.format.specs.Size.{SizeLaw, size-refusals, frames-size-refusals, GivenBy, marked, longer, SizeLaws}
 use Rattle.format.proofs.Tests.{nleb-is, is-leb, is-nleb, is-eqb}
 use Rattle.format.proofs.Firsts.{holds, split, first-stop, first-none, first-some}
-use Rattle.format.proofs.Members.{is-member, no-member}
+use Rattle.format.proofs.Members.{has, is-member, no-member}
 use Rattle.format.proofs.Numbered.{Numbered, none-numbered, then-numbered, check-numbered, each-numbered}
 use Rattle.format.proofs.Writers.{of-accepted, of-refused, none-then, writer-law}
 use Rattle.format.proofs.Written.{same-images}
@@ -88,10 +88,10 @@ module _ (w : Writing) where
         length-given = λ out n q. length-given out (first (w .checks)) refl n q;
       }
 
--- a body's refusals
-table-numbered : {cs : List Check} (k : ℕ) (text table : List ℕ) → Numbered size-refusals cs → Numbered size-refusals (table-checks k text table ++ cs)
-unfolding size-refusals table-checks
-table-numbered k text table h = check-numbered 26 refl (check-numbered 26 refl h)
+-- the refusals of a body and of frames
+table-numbered : {ks : List ℕ} {cs : List Check} → has ks 26 ≡ true → (k : ℕ) (text table : List ℕ) → Numbered ks cs → Numbered ks (table-checks k text table ++ cs)
+unfolding table-checks
+table-numbered e k text table h = check-numbered 26 e (check-numbered 26 e h)
 
 pairs-numbered : (ps : List Pair) → Numbered size-refusals (pairs-checks ps)
 unfolding size-refusals pairs-checks
@@ -107,16 +107,29 @@ unfolding size-refusals writing-header-body body-checks
 body-numbered b =
     let opening = check-numbered 3 refl (check-numbered 5 refl (check-numbered 6 refl (check-numbered 7 refl (check-numbered 24 refl none-numbered)))) in
     let closing = check-numbered 17 refl (check-numbered 19 refl (check-numbered 25 refl (check-numbered 20 refl none-numbered))) in
-    let pairs = table-numbered 4 (b .text) (b .pairTable) (pairs-numbered (fields-to-write b .pairs)) in
-    let keys = table-numbered 6 (b .text) (b .keyTable) (keys-numbered (fields-to-write b .keys)) in
+    let pairs = table-numbered refl 4 (b .text) (b .pairTable) (pairs-numbered (fields-to-write b .pairs)) in
+    let keys = table-numbered refl 6 (b .text) (b .keyTable) (keys-numbered (fields-to-write b .keys)) in
     then-numbered opening (then-numbered pairs (check-numbered 33 refl (then-numbered keys closing)))
 
-listed : (b : BodyToWrite) (k p : ℕ) → size-of (writing-header-body b) ≡ refused k p → List·Memᴰ k size-refusals × (k ≡ 28 → ⊥) × (p ≡ 0)
-unfolding size-refusals
-listed b k p e =
-    let (f, z) = of-refused (writing-header-body b .image) (first (writing-header-body b .checks)) k p e in
-    let m = is-member size-refusals k (body-numbered b .found k f) in
-    (m, λ q. no-member size-refusals 28 refl (rw q at m), z)
+contents-numbered : (frame : ℕ) (ns : List ℕ) → Numbered frames-size-refusals (content-checks frame ns)
+unfolding frames-size-refusals content-checks
+contents-numbered frame [] = none-numbered
+contents-numbered frame (n ∷ []) = check-numbered 35 refl none-numbered
+contents-numbered frame (n ∷ k ∷ ns) = check-numbered 37 refl (contents-numbered frame (k ∷ ns))
+
+frames-numbered : (frame : ℕ) (text table : List ℕ) → Numbered frames-size-refusals (writing-frames frame text table .checks)
+unfolding frames-size-refusals writing-frames frames-checks
+frames-numbered frame text table =
+    let fs = frames-in text table in
+    let each-frame = each-numbered frame-checks (λ done f. check-numbered 19 refl (check-numbered 30 refl none-numbered)) [] fs in
+    check-numbered 20 refl
+    (table-numbered refl 6 text table (check-numbered 36 refl (check-numbered 27 refl (then-numbered each-frame (contents-numbered frame (map content-length fs))))))
+
+given-by : (ks : List ℕ) → has ks 28 ≡ false → (w : Writing) → Numbered ks (w .checks) → GivenBy ks w
+given-by ks other w h k p e =
+    let (f, z) = of-refused (w .image) (first (w .checks)) k p e in
+    let m = is-member ks k (h .found k f) in
+    (m, λ q. no-member ks 28 other (rw q at m), z)
 
 -- marks: where there is no pair, the two have the same checks, and the images differ by two bytes
 module _ (b : BodyToWrite) where
@@ -156,4 +169,12 @@ module _ (b : BodyToWrite) where
       h (no-pairs _ (split pairs _ (holds (by-mark old .checks) f .1 .1 .1 .1 .1) .1 .0))
 
 pub size-laws : SizeLaws
-size-laws = record { of-writers = size-law; listed = listed; old-without-pairs = without-pairs; old-with-a-pair = with-a-pair }
+unfolding size-refusals frames-size-refusals
+size-laws =
+    record {
+      of-writers = size-law;
+      of-body = λ b. given-by size-refusals refl (writing-header-body b) (body-numbered b);
+      of-frames = λ frame text table. given-by frames-size-refusals refl (writing-frames frame text table) (frames-numbered frame text table);
+      old-without-pairs = without-pairs;
+      old-with-a-pair = with-a-pair;
+    }

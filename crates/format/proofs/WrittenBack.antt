@@ -33,7 +33,7 @@ inside m table (p ∷ ps) at (w, h) e =
     let (a, b) = place-there table p (images place ps) at e in
     rw (a, b, leb-is (p .start + length (p .bytes)) (length m) w) (inside m table ps (at + 2) h (sym (drop-drop 2 at table) ∙ ap (drop 2) e))
 
-passes : (k : ℕ) (m : List ℕ) (ps : List Part) → length (images place ps) % k ≡ 0 → Each (Within m) ps → first (table-checks k m (images place ps)) ≡ none
+pub passes : (k : ℕ) (m : List ℕ) (ps : List Part) → length (images place ps) % k ≡ 0 → Each (Within m) ps → first (table-checks k m (images place ps)) ≡ none
 unfolding table-checks
 passes k m ps whole h =
     let t = images place ps in
@@ -41,7 +41,7 @@ passes k m ps whole h =
     unheld (table-checks k m t) (eqb-is _ 0 whole, (rw e (inside m t ps 0 h refl), tt))
 
 -- of a table that was filled, the entries that were
-front : (numbers table : List ℕ) (n : ℕ) → length numbers ≡ n → take n (filled numbers table) ≡ numbers
+pub front : (numbers table : List ℕ) (n : ℕ) → length numbers ≡ n → take n (filled numbers table) ≡ numbers
 front numbers table n e = rw (← e) (take-append-seam numbers (drop (length numbers) table))
 
 pairs-back : (m : List ℕ) (ps : List PairAt) → Each (Held m) (images pair-places ps) → pairs-in m (pair-numbers ps) ≡ map pair-of ps

@@ -2,7 +2,7 @@
 use mathlib.Core.Path.{_≡_}
 use mathlib.Core.Option.{Option, none, some}
 use mathlib.Core.Bool.{Bool, true, false, _&&_, _||_, not}
-use mathlib.Core.List.{List, [], _∷_, _++_}
+use mathlib.Core.List.{List, [], _∷_, _++_, map}
 use Prim.Native.Nat.{ℕ, _<_}
 use lib.Dec.{leb, ltb, eqb}
 use lib.ListN.{length}
@@ -11,6 +11,7 @@ use Rattle.format.specs.Utf8.{valid-utf8-seq}
 use Rattle.format.specs.Shared.{by, one-or-two, known, of-version, id-length, iv-length, tag-length, commit-key-length, frame-fits}
 use Rattle.format.specs.Fields.{Form, today, old, Pair, EncryptedDataKey, Fields, pair-parts, key-parts}
 use Rattle.format.specs.Context.{seen, linear-length, pairs-limit}
+use Rattle.format.specs.Frames.{Frame}
 
 -- a refusal's number, and the test that it answers for
 pub record Check : Type 0 where
@@ -89,9 +90,34 @@ body-checks pairs-first keys-first form f =
     ++ ((keys-first ++ keys-checks (f .keys))
     ++ closing-checks (f .version) (f .contentType) (f .headerIvLength) (length (f .suiteData)) (f .frameLength))))
 
+-- 19 and 30, by the lengths of an IV and a tag
+abbrev pub sealed-checks : ℕ → ℕ → List Check
+sealed-checks iv tag = check 19 (eqb iv iv-length) ∷ check 30 (eqb tag tag-length) ∷ []
+
 -- write an authentication record, by the lengths of its IV and tag, without 28
 unfoldable pub auth-checks : ℕ → ℕ → ℕ → List Check
-auth-checks suite iv tag = check 6 (known suite) ∷ check 19 (eqb iv iv-length) ∷ check 30 (eqb tag tag-length) ∷ []
+auth-checks suite iv tag = check 6 (known suite) ∷ sealed-checks iv tag
+
+abbrev pub frame-checks : List Frame → Frame → List Check
+frame-checks done f = sealed-checks (length (f .iv)) (length (f .tag))
+
+-- by the lengths of contents: 37 of each but the last, and then 35 of the last
+unfoldable pub content-checks : ℕ → List ℕ → List Check
+content-checks frame [] = []
+content-checks frame (n ∷ []) = check 35 (leb n frame) ∷ []
+content-checks frame (n ∷ k ∷ ns) = check 37 (eqb n frame) ∷ content-checks frame (k ∷ ns)
+
+abbrev pub content-length : Frame → ℕ
+content-length f = length (f .content)
+
+-- write frames of a frame length, without 28, with checks at the place of 26
+unfoldable pub frames-checks : ℕ → List Check → List Frame → List Check
+frames-checks frame table-first fs =
+    check 20 (not (eqb frame 0))
+    ∷ (table-first
+    ++ (check 36 (not (eqb (length fs) 0))
+    ∷ check 27 (leb (length fs) 65535)
+    ∷ (each frame-checks [] fs ++ content-checks frame (map content-length fs))))
 
 -- our writer, given the mark, accepts the fields: no refusal of a body write applies to them, 26 and 28 left aside.
 -- A frame length has 32 bits, so no refusal speaks of a longer one.

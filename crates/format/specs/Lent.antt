@@ -12,8 +12,8 @@ use Rattle.format.specs.Context.{write-aad-section}
 use Rattle.format.specs.Keys.{write-encrypted-data-keys-section}
 use Rattle.format.specs.Body.{image}
 use Rattle.format.specs.Auth.{write-header-auth-tag}
-use Rattle.format.specs.Frames.{Frame, FrameAt, frame-places}
-use Rattle.format.specs.Checks.{Check, check, first, pairs-checks, keys-checks, body-checks, auth-checks}
+use Rattle.format.specs.Frames.{Frame, FrameAt, frame-places, write-frames}
+use Rattle.format.specs.Checks.{Check, check, first, pairs-checks, keys-checks, body-checks, auth-checks, frames-checks}
 
 -- the bytes of m at a place
 abbrev pub bytes-at : List ℕ → ℕ → ℕ → List ℕ
@@ -81,6 +81,9 @@ pairs-in text table = items (pair-in text table) 4 (length table / 4) 0
 abbrev pub keys-in : List ℕ → List ℕ → List EncryptedDataKey
 keys-in text table = items (key-in text table) 6 (length table / 6) 0
 
+abbrev pub frames-in : List ℕ → List ℕ → List Frame
+frames-in text table = items (frame-in text table) 6 (length table / 6) 0
+
 -- where the places of a table stand, two numbers each
 abbrev pub here : ℕ → ℕ
 here at = at
@@ -124,7 +127,7 @@ output-of (some k) image out = out
 abbrev pub output-after : Writing → List ℕ → List ℕ
 output-after w out = output-of (refusal-of w out) (w .image) out
 
--- the four writers
+-- the five writers
 unfoldable pub writing-aad-section : List ℕ → List ℕ → Writing
 writing-aad-section text pairs =
     record { checks = table-checks 4 text pairs ++ pairs-checks (pairs-in text pairs); image = write-aad-section (pairs-in text pairs) }
@@ -172,3 +175,8 @@ writing-header-body b =
 
 unfoldable pub writing-header-auth-tag : ℕ → List ℕ → List ℕ → Writing
 writing-header-auth-tag suite iv tag = record { checks = auth-checks suite (length iv) (length tag); image = write-header-auth-tag suite iv tag }
+
+-- the frames of a frame length that stand in a table; the last entry becomes the final frame
+unfoldable pub writing-frames : ℕ → List ℕ → List ℕ → Writing
+writing-frames frame text table =
+    record { checks = frames-checks frame (table-checks 6 text table) (frames-in text table); image = write-frames (frames-in text table) }

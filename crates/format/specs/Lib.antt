@@ -22,6 +22,7 @@ pub mod Sections
 pub mod FrameLaws
 pub mod Characters
 pub mod Lengths
+pub mod FramesWritten
 pub mod Size
 pub mod Pinned
 pub mod SourceEquality

@@ -5,7 +5,7 @@ use Prim.Native.Nat.{ℕ, _+_, _≤_, _<_}
 use lib.ListN.{length}
 use Rattle.format.specs.Read.{Answer, accepted, refused}
 use Rattle.format.specs.Fields.{Form, today, old}
-use Rattle.format.specs.Lent.{Writing, written, output-after, size-of, BodyToWrite, fields-to-write, writing-header-body}
+use Rattle.format.specs.Lent.{Writing, written, output-after, size-of, BodyToWrite, fields-to-write, writing-header-body, writing-frames}
 use Rattle.format.specs.Lengths.{JustWhere}
 
 -- every writer
@@ -22,6 +22,14 @@ pub record SizeLaw (w : Writing) : Type 0 where
 -- the numbers of a body's refusals, in the order of their tests; 26 and 27 stand before the keys' 16 as well
 unfoldable pub size-refusals : List ℕ
 size-refusals = 3 ∷ 5 ∷ 6 ∷ 7 ∷ 24 ∷ 26 ∷ 27 ∷ 10 ∷ 11 ∷ 12 ∷ 13 ∷ 33 ∷ 16 ∷ 17 ∷ 19 ∷ 25 ∷ 20 ∷ []
+
+-- and of frames'
+unfoldable pub frames-size-refusals : List ℕ
+frames-size-refusals = 20 ∷ 26 ∷ 36 ∷ 27 ∷ 19 ∷ 30 ∷ 37 ∷ 35 ∷ []
+
+-- the refusal given is of the list, so never 28, and its position is 0
+abbrev pub GivenBy : List ℕ → Writing → Type 0
+GivenBy refusals w = (k p : ℕ) → size-of w ≡ refused k p → List·Memᴰ k refusals × (k ≡ 28 → ⊥) × (p ≡ 0)
 
 -- the same call with another mark
 abbrev pub marked : Form → BodyToWrite → BodyToWrite
@@ -48,8 +56,8 @@ longer k (refused j p) = refused j p
 
 pub record SizeLaws : Type 0 where
   pub of-writers : (w : Writing) → SizeLaw w
-  -- the refusal given for a body is of the list, so never 28, and its position is 0
-  pub listed : (b : BodyToWrite) (k p : ℕ) → size-of (writing-header-body b) ≡ refused k p → List·Memᴰ k size-refusals × (k ≡ 28 → ⊥) × (p ≡ 0)
+  pub of-body : (b : BodyToWrite) → GivenBy size-refusals (writing-header-body b)
+  pub of-frames : (frame : ℕ) (text table : List ℕ) → GivenBy frames-size-refusals (writing-frames frame text table)
   -- marked old, a body without pairs takes two bytes more than marked as today's, and is refused alike; one with a pair has no length
   pub old-without-pairs : (b : BodyToWrite) → fields-to-write b .pairs ≡ [] → size-of (writing-header-body (marked old b)) ≡ longer 2 (size-of (writing-header-body (marked today b)))
   pub old-with-a-pair : (b : BodyToWrite) → (fields-to-write b .pairs ≡ [] → ⊥) → (n : ℕ) → size-of (writing-header-body (marked old b)) ≡ accepted tt n → ⊥

@@ -57,7 +57,7 @@ pub const CONTENT_TYPE: u8 = 17;
 // The reserved bytes are not 00 00 00 00.
 pub const RESERVED_BYTES: u8 = 18;
 
-// The IV length is not the suite's; writing a body of version 2, it is not 0.
+// The IV length is not the suite's; writing a body of version 2, it is not 0; writing a frame, its IV is not 12 bytes.
 pub const IV_LENGTH: u8 = 19;
 
 // Framed content with frame length 0, or non-framed content with another; frames with length 0.
@@ -107,3 +107,9 @@ pub const SEQUENCE_NUMBER: u8 = 34;
 
 // The content of the final frame is longer than the frame length.
 pub const FINAL_CONTENT_TOO_LONG: u8 = 35;
+
+// There is no frame to write.
+pub const NO_FRAME: u8 = 36;
+
+// The content of a frame before the last is not exactly the frame length.
+pub const REGULAR_CONTENT_LENGTH: u8 = 37;

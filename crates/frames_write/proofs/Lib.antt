@@ -1,0 +1,4 @@
+pub mod Lengths
+pub mod Contents
+pub mod Stores
+pub mod Putting
