@@ -1,10 +1,13 @@
 -- For each list of refusals a table of calls whose answers, computed, are the numbers of the list in their order. Assumes nothing.
-use mathlib.Core.Path.{_≡_, refl}
-use mathlib.Core.Bool.{Bool, true, false}
+use mathlib.Core.Path.{_≡_, refl, ap, _∙_}
+use mathlib.Core.Bool.{Bool, true, false, not}
 use mathlib.Core.Option.{Option, none, some}
 use mathlib.Core.List.{List, [], _∷_, _++_, map}
-use Prim.Native.Nat.{ℕ}
-use lib.ListN.{take}
+use Prim.Native.Nat.{ℕ, zero, suc, _+_, _*_, _/_, _%_, _<_}
+use native.Mathlib.Omega.{arith}
+use lib.ListN.{length, getD, take, replicate, length-replicate}
+use borrow.Author.Tests.{ne-eqb, lt-leb}
+use Rattle.format.specs.Serialize.{every}
 use Rattle.format.specs.Read.{Reader, Answer, accepted, refused, operation}
 use Rattle.format.specs.Context.{Mode, tolerant, strict, read-aad-section, read-aad-section-into, look-up, find-value}
 use Rattle.format.specs.Keys.{at-most, read-encrypted-data-keys-section-into}
@@ -13,13 +16,16 @@ use Rattle.format.specs.Fields.{Form, today, old}
 use Rattle.format.specs.Auth.{read-header-auth-tag, read-header-auth-tag-of, zeros}
 use Rattle.format.specs.Frames.{read-frames-into}
 use Rattle.format.specs.OnlyAuthenticated.{write-only-authenticated}
-use Rattle.format.specs.Lent.{items, in-text, part-in, table-checks, BodyToWrite, fields-to-write, size-of, writing-header-body}
+use Rattle.format.specs.Checks.{first, frames-checks}
+use Rattle.format.specs.Lent.{items, in-text, part-in, frame-in, frames-in, table-checks, BodyToWrite, fields-to-write, size-of, writing-header-body, writing-frames}
 use Rattle.format.specs.Refusals.{section-refusals, opening-refusals, reserved-refusals, frame-refusals, closing-refusals, keys-refusals, body-refusals, auth-refusals, frames-refusals}
 use Rattle.format.specs.Size.{size-refusals}
 use Rattle.cases.specs.Cases.{H, opened, laid-out}
 use Rattle.cases.specs.Headers.{bytes-from, V2}
 use Rattle.cases.specs.Tags.{selecting}
-use Rattle.cases.specs.Frames.{iv, tag, final, of-frames}
+use Rattle.format.proofs.Firsts.{first-pass, first-stop}
+use Rattle.format.proofs.Tables.{items-length}
+use Rattle.cases.specs.Frames.{iv, tag, regular, final, two, two-places, of-frames}
 use Rattle.cases.specs.Faults.{id, some-text, lent-in}
 use Rattle.cases.specs.Occurs.{listed-for}
 
@@ -230,3 +236,52 @@ size-calls =
 pub size-answers : map size-said size-calls ≡ map some size-refusals
 unfolding opened laid-out size-calls size-refusals H zeros items in-text part-in table-checks fields-to-write writing-header-body
 size-answers = refl
+
+-- frames to write: a frame length, a text and a table. 27 is of 65,536 frames, a table too long to compute with
+abbrev pub FramesToWrite : Type 0
+FramesToWrite = ℕ × List ℕ × List ℕ
+
+abbrev pub frames-size-said : FramesToWrite → Option ℕ
+frames-size-said (frame, text, table) = number-of (size-of (writing-frames frame text table))
+
+abbrev pub but-27 : List ℕ
+but-27 = 20 ∷ 26 ∷ 36 ∷ 19 ∷ 30 ∷ 37 ∷ 35 ∷ []
+
+unfoldable pub frames-size-calls : List FramesToWrite
+frames-size-calls =
+    (0, [], [])
+    ∷ (2, [], 0 ∷ [])
+    ∷ (2, [], [])
+    ∷ (2, two, 4 ∷ 11 ∷ 16 ∷ 2 ∷ 18 ∷ 16 ∷ [])
+    ∷ (2, two, 4 ∷ 12 ∷ 16 ∷ 2 ∷ 18 ∷ 17 ∷ [])
+    ∷ (3, two, two-places)
+    ∷ (1, two, 4 ∷ 12 ∷ 16 ∷ 2 ∷ 18 ∷ 16 ∷ [])
+    ∷ []
+
+pub frames-size-answers : map frames-size-said frames-size-calls ≡ map some but-27
+unfolding opened laid-out of-frames frames-size-calls two two-places regular final iv tag bytes-from items in-text part-in table-checks
+frames-size-answers = refl
+
+all-true : (f : ℕ → Bool) → ((x : ℕ) → f x ≡ true) → (xs : List ℕ) → every f xs ≡ true
+unfolding every
+all-true f h [] = refl
+all-true f h (x ∷ xs) = rw (h x) (all-true f h xs)
+
+all-zero : (n i : ℕ) → _≡_ {A = ℕ} (getD (replicate n 0) i 0) 0
+all-zero zero i = refl
+all-zero (suc n) zero = refl
+all-zero (suc n) (suc i) = all-zero n i
+
+-- frames without a byte, more than 65,535
+pub many-frames : (n : ℕ) → 65535 < n → first (writing-frames 1 [] (replicate (6 * n) 0) .checks) ≡ some 27
+unfolding writing-frames frames-checks table-checks in-text
+many-frames n h =
+    let table : List ℕ = replicate (6 * n) 0 in
+    let l : length table ≡ 6 * n = length-replicate (6 * n) 0 in
+    let count : length (frames-in [] table) ≡ n = items-length (frame-in [] table) 6 (length table / 6) 0 ∙ (let k : length table / 6 ≡ n = omega arith in k) in
+    let whole : length table % 6 ≡ 0 = omega arith in
+    first-pass 20 _ _ refl
+    ∙ first-pass 26 _ _ (rw whole refl)
+    ∙ first-pass 26 _ _ (all-true (in-text [] table) (λ at. rw (all-zero (6 * n) at, all-zero (6 * n) (at + 1)) refl) _)
+    ∙ first-pass 36 _ _ (rw count (ap not (ne-eqb n 0 (λ z. omega arith))))
+    ∙ first-stop 27 _ _ (rw count (lt-leb n 65535 h))

@@ -4,8 +4,9 @@ use mathlib.Core.Bool.{true}
 use mathlib.Core.Logic.{_⊎_, ⊎-elim}
 use mathlib.Core.Option.{Option, none, some}
 use mathlib.Core.List.{List, [], _∷_, _++_, map, List·Memᴰ, List·Memᴰ·not-nil, List·Memᴰ·cases-cons}
-use Prim.Native.Nat.{ℕ}
+use Prim.Native.Nat.{ℕ, _*_}
 use native.Mathlib.Omega.{arith}
+use lib.ListN.{replicate}
 use Rattle.format.specs.Read.{Reader, Answer, accepted, refused, operation}
 use Rattle.format.specs.Context.{Mode, tolerant, strict, read-aad-section, read-aad-section-into, look-up, find-value}
 use Rattle.format.specs.Keys.{at-most}
@@ -15,12 +16,12 @@ use Rattle.format.specs.Frames.{read-frames-into}
 use Rattle.format.specs.OnlyAuthenticated.{write-only-authenticated}
 use Rattle.format.specs.Refusals.{section-refusals, context-refusals, find-refusals, only-authenticated-refusals, opening-refusals, reserved-refusals, frame-refusals, closing-refusals, keys-refusals, body-refusals, auth-refusals, frames-refusals}
 use Rattle.format.specs.Checks.{first}
-use Rattle.format.specs.Lent.{written-of, BodyToWrite, size-of, writing-header-body}
-use Rattle.format.specs.Size.{size-refusals}
+use Rattle.format.specs.Lent.{written-of, Writing, size-of, writing-header-body, writing-frames}
+use Rattle.format.specs.Size.{size-refusals, frames-size-refusals}
 use Rattle.format.proofs.Members.{has-all, members}
 use Rattle.format.proofs.Messages.{refused-stays}
 use Rattle.cases.specs.Occurs.{Answers, listed-for, Occurs}
-use Rattle.cases.proofs.Calls.{number-of, Call, calls, said, sections, far-and-short, section-answers, opening-bytes, is-v1, body-calls, body-answers, old-form, strict-section, strict-body, no-table, no-pair, odd-table, no-output, key-calls, key-answers, auth-said, auth-calls, auth-answers, frames-said, frames-calls, frames-answers, size-said, size-calls, size-answers}
+use Rattle.cases.proofs.Calls.{number-of, Call, calls, said, sections, far-and-short, section-answers, opening-bytes, is-v1, body-calls, body-answers, old-form, strict-section, strict-body, no-table, no-pair, odd-table, no-output, key-calls, key-answers, auth-said, auth-calls, auth-answers, frames-said, frames-calls, frames-answers, size-said, size-calls, size-answers, frames-size-said, but-27, frames-size-calls, frames-size-answers, many-frames}
 
 -- a number that is answered by a call
 answered : {A : Type 0} (r : Reader A) (c : Call) (k : ℕ) → said r c ≡ some k → Answers r k
@@ -110,13 +111,20 @@ of-body which strict k h =
     (body-answered which strict k)
     (one-apart 21 (listed-for which tolerant) (listed-for which strict) (without-21 which) k h)
 
--- the size of a body
-size-answered : (b : BodyToWrite) (k : ℕ) → size-said b ≡ some k → size-of (writing-header-body b) ≡ refused k 0
-size-answered b k e = go (first (writing-header-body b .checks)) e
+-- what is told of a size
+size-answered : (w : Writing) (k : ℕ) → number-of (size-of w) ≡ some k → size-of w ≡ refused k 0
+size-answered w k e = go (first (w .checks)) e
   where
-    go : (o : Option ℕ) → number-of (written-of o (writing-header-body b .image)) ≡ some k → written-of o (writing-header-body b .image) ≡ refused k 0
+    go : (o : Option ℕ) → number-of (written-of o (w .image)) ≡ some k → written-of o (w .image) ≡ refused k 0
     go none e = let z : _≡_ {A = ℕ} 0 1 = cc in absurd (omega arith)
     go (some j) e = let same : j ≡ k = cc in ap (λ n. refused n 0) same
+
+of-frames-size : (k : ℕ) → List·Memᴰ k frames-size-refusals → (frame : ℕ) × (text : List ℕ) × (table : List ℕ) × (size-of (writing-frames frame text table) ≡ refused k 0)
+unfolding frames-size-refusals
+of-frames-size k h =
+    ⊎-elim (λ e. (1, [], replicate (6 * 65536) 0, rw (many-frames 65536 (omega arith), e) refl))
+    (λ i. let ((frame, text, table), e) = among frames-size-said frames-size-calls but-27 frames-size-answers k i in (frame, text, table, size-answered (writing-frames frame text table) k e))
+    (one-apart 27 but-27 frames-size-refusals refl k h)
 
 pub occurs : Occurs
 occurs =
@@ -128,5 +136,6 @@ occurs =
       of-body = λ which mode k h. (at-most 1, 4, 0, of-body which mode k h);
       of-auth = λ k h. let (c, e) = among auth-said auth-calls auth-refusals auth-answers k h in (c .0, answered (read-header-auth-tag (c .0)) ([], c .1) k e);
       of-frames = λ k h. let (c, e) = among frames-said frames-calls frames-refusals frames-answers k h in (c .0, 0, answered (read-frames-into (c .0) 0) (c .1) k e);
-      of-size = λ k h. let (b, e) = among size-said size-calls size-refusals size-answers k h in (b, size-answered b k e);
+      of-size = λ k h. let (b, e) = among size-said size-calls size-refusals size-answers k h in (b, size-answered (writing-header-body b) k e);
+      of-frames-size = of-frames-size;
     }

@@ -15,10 +15,10 @@ use Rattle.format.specs.Context.{Mode, tolerant, strict, read-aad-section-into,
 use Rattle.format.specs.Keys.{no-max, at-most, read-encrypted-data-keys-section-into}
 use Rattle.format.specs.Body.{Which, either, v1-only, v2-only, read-header-body}
 use Rattle.format.specs.Auth.{read-header-auth-tag, read-header-auth-tag-of, write-header-auth-tag, zeros}
-use Rattle.format.specs.Frames.{read-frames-into}
+use Rattle.format.specs.Frames.{Frame, read-frames-into}
 use Rattle.format.specs.OnlyAuthenticated.{write-only-authenticated}
-use Rattle.format.specs.Checks.{first, pairs-checks, keys-checks, auth-checks}
-use Rattle.format.specs.Lent.{pair-numbers, key-numbers, frame-numbers, table-checks, Writing, refusal-of, BodyToWrite, fields-to-write, writing-aad-section, writing-encrypted-data-keys-section, writing-header-body, writing-header-auth-tag}
+use Rattle.format.specs.Checks.{first, pairs-checks, keys-checks, auth-checks, frames-checks}
+use Rattle.format.specs.Lent.{pair-numbers, key-numbers, frame-numbers, table-checks, Writing, refusal-of, BodyToWrite, fields-to-write, writing-aad-section, writing-encrypted-data-keys-section, writing-header-body, writing-header-auth-tag, writing-frames}
 use Rattle.cases.specs.Cases.{Expected, accepts, refuses, shortage-at, is, body-numbers, H, opened, laid-out}
 use Rattle.cases.specs.Headers.{bytes-from, V2}
 use Rattle.cases.specs.Tags.{selecting}
@@ -43,9 +43,10 @@ pub data Fault : Type 0 where
   frames : ℕ → ℕ → List ℕ → ℕ → Expected → Fault
   -- a writer's call, into an output of no bytes
   write : Writing → ℕ → Fault
-  -- pairs and keys that a writer is handed, whatever their table
+  -- pairs, keys and frames of length 2 that a writer is handed, whatever their table
   write-pairs : List Pair → ℕ → Fault
   write-keys : List EncryptedDataKey → ℕ → Fault
+  write-frames : List Frame → ℕ → Fault
 
 abbrev none-else : Option ℕ → ℕ → Bool
 none-else none k = false
@@ -66,6 +67,7 @@ answered (frames frame room m s want) = is frame-numbers (operation (read-frames
 answered (write w k) = none-else (refusal-of w []) k
 answered (write-pairs ps k) = none-else (first (pairs-checks ps)) k
 answered (write-keys ks k) = none-else (first (keys-checks ks)) k
+answered (write-frames fs k) = none-else (first (frames-checks 2 [] fs)) k
 
 -- H up to its key section's end, with another rest
 abbrev before-closing : List ℕ → List ℕ
@@ -105,6 +107,10 @@ to-write = to-write-in today some-text
 -- marked old, with those tables and nothing behind them that would pass
 abbrev old-with : List ℕ → List ℕ → Writing
 old-with pairTable keyTable = to-write-in old some-text 1 0x80 0x0178 id pairTable keyTable 0 0 [] 0
+
+-- two frames of length 2, whose parts have those lengths
+abbrev of-lengths : ℕ → ℕ → ℕ → ℕ → ℕ → ℕ → Writing
+of-lengths iv content tag iv₂ content₂ tag₂ = writing-frames 2 two (4 ∷ iv ∷ 16 ∷ content ∷ 18 ∷ tag ∷ 42 ∷ iv₂ ∷ 56 ∷ content₂ ∷ 58 ∷ tag₂ ∷ [])
 
 -- no UTF-8
 abbrev long-text : ℕ → List ℕ
@@ -248,6 +254,22 @@ faults =
     ∷ write (writing-header-auth-tag 0x0478 id []) 19
     ∷ write (writing-header-auth-tag 0x0478 (take 12 id) []) 30
     ∷ write (writing-header-auth-tag 0x0478 (take 12 id) id) 28
+    -- write frames: their places in two, by the length of each one's IV, content and tag
+    ∷ write (writing-frames 0 [] (0 ∷ [])) 20
+    ∷ write (writing-frames 0 [] []) 20
+    ∷ write (writing-frames 2 [] (0 ∷ 1 ∷ [])) 26
+    ∷ write (writing-frames 2 [] (0 ∷ 0 ∷ 0 ∷ 0 ∷ 0 ∷ 1 ∷ [])) 26
+    ∷ write (writing-frames 2 [] []) 36
+    ∷ write-frames (replicate 65536 (record { iv = []; content = []; tag = [] })) 27
+    ∷ write (of-lengths 11 1 15 12 3 16) 19
+    ∷ write (of-lengths 12 1 15 11 3 16) 30
+    ∷ write (of-lengths 12 1 16 13 3 15) 19
+    ∷ write (of-lengths 12 3 16 12 3 17) 30
+    ∷ write (of-lengths 12 1 16 12 3 16) 37
+    ∷ write (of-lengths 12 3 16 12 2 16) 37
+    ∷ write (of-lengths 12 2 16 12 3 16) 35
+    ∷ write (of-lengths 12 2 16 12 1 16) 28
+    ∷ write (of-lengths 12 2 16 12 2 16) 28
     ∷ []
 
 pub first-fault : every answered faults ≡ true

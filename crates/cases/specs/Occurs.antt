@@ -1,4 +1,4 @@
--- Each number of the lists in Rattle.format.specs.Refusals, and of a body's size, does occur: some call of the operation answers it.
+-- Each number of the lists in Rattle.format.specs.Refusals, and of a body's and of frames' size, does occur: some call of the operation answers it.
 -- Assumes nothing.
 use mathlib.Core.Path.{_≡_}
 use mathlib.Core.List.{List, List·Memᴰ}
@@ -10,9 +10,9 @@ use Rattle.format.specs.Body.{Which, request, tests-frames, read-header-body}
 use Rattle.format.specs.Auth.{read-header-auth-tag}
 use Rattle.format.specs.Frames.{read-frames-into}
 use Rattle.format.specs.OnlyAuthenticated.{write-only-authenticated}
-use Rattle.format.specs.Lent.{BodyToWrite, size-of, writing-header-body}
+use Rattle.format.specs.Lent.{BodyToWrite, size-of, writing-header-body, writing-frames}
 use Rattle.format.specs.Refusals.{context-refusals, find-refusals, only-authenticated-refusals, keys-refusals, body-refusals, auth-refusals, frames-refusals}
-use Rattle.format.specs.Size.{size-refusals}
+use Rattle.format.specs.Size.{size-refusals, frames-size-refusals}
 
 -- there is a message and a start of which the reader answers the refusal
 pub record Answers {A : Type 0} (r : Reader A) (number : ℕ) : Type 0 where
@@ -36,3 +36,4 @@ pub record Occurs : Type 0 where
   pub of-auth : (k : ℕ) → List·Memᴰ k auth-refusals → (suite : ℕ) × Answers (read-header-auth-tag suite) k
   pub of-frames : (k : ℕ) → List·Memᴰ k frames-refusals → (frame : ℕ) × (room : ℕ) × Answers (read-frames-into frame room) k
   pub of-size : (k : ℕ) → List·Memᴰ k size-refusals → (b : BodyToWrite) × (size-of (writing-header-body b) ≡ refused k 0)
+  pub of-frames-size : (k : ℕ) → List·Memᴰ k frames-size-refusals → (frame : ℕ) × (text : List ℕ) × (table : List ℕ) × (size-of (writing-frames frame text table) ≡ refused k 0)

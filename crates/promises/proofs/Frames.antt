@@ -35,7 +35,7 @@ module _ (c : Call) (hb : Bytes (c .message)) (meets : Meets c) where
       }
 
   -- an answer that accepts is the definition's
-  got : (n t : ℕ) → c .answer ≡ Accepted n t → (x : Answer (List FrameAt)) → o ≡ x → (places : List FrameAt) × (o ≡ accepted places t) × (length places ≡ n)
+  pub got : (n t : ℕ) → c .answer ≡ Accepted n t → (x : Answer (List FrameAt)) → o ≡ x → (places : List FrameAt) × (o ≡ accepted places t) × (length places ≡ n)
   got n t a (accepted places u) e = let z : Accepted (length places) u ≡ Accepted n t = sym (meets .answer ∙ ap frames-of e) ∙ a in let p : u ≡ t = cc in (places, e ∙ ap (accepted places) p, cc)
   got n t a (refused k p) e = let z : Refused (because k p) ≡ Accepted n t = sym (meets .answer ∙ ap frames-of e) ∙ a in let w : _≡_ {A = ℕ} 0 1 = cc in absurd (omega arith)
 

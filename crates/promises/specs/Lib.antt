@@ -6,3 +6,4 @@ pub mod Listed
 pub mod OnlyAuthenticated
 pub mod Frames
 pub mod Source
+pub mod FramesWritten
