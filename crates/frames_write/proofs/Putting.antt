@@ -16,7 +16,7 @@ use Rattle.checks.proofs.Items.{items-step, items-none}
 use Rattle.frames_write.specs.Table.{FrameThere, FramesReady}
 use Rattle.frames_write.specs.Puts.{Puts}
 use Rattle.frames_write.proofs.Lengths.{frame-there}
-use Rattle.frames_write.proofs.Stores.{room-first, longs, room-next}
+use Rattle.frames_write.proofs.Stores.{room-first, longs, room-next, any-number}
 
 -- frames are being stored: what it will store is what is left to store
 pub record Putting (text table out₀ out : List ℕ) (i j at : ℕ) : Type 0 where
@@ -46,8 +46,8 @@ module _ (text table out₀ out : List ℕ) (i j at : ℕ) (p : Putting text tab
     room : at + length (write-regular-frame (i + 1) (frame-in text table j) ++ rest) ≤ length out
     room = rw split at (p .left)
 
-    pub putting-room : at + length (write-regular-frame (i + 1) (frame-in text table j)) ≤ length out
-    putting-room = room-first out at (write-regular-frame (i + 1) (frame-in text table j)) rest room
+    pub putting-room : (n : ℕ) → at + length (write-regular-frame n (frame-in text table j)) ≤ length out
+    putting-room n = rw (any-number (frame-in text table j) n (i + 1)) (room-first out at (write-regular-frame (i + 1) (frame-in text table j)) rest room)
 
     pub putting-more : (out′ : List ℕ) (at′ : ℕ) → Puts out at (write-regular-frame (i + 1) (frame-in text table j)) out′ at′ → Putting text table out₀ out′ (i + 1) (j + 6) at′
     putting-more out′ at′ q =
@@ -57,7 +57,7 @@ module _ (text table out₀ out : List ℕ) (i j at : ℕ) (p : Putting text tab
           is = omega (arith, p .is);
           long = longs out at b rest room out′ at′ q ∙ p .long;
           left = rw (add-one (i + 1)) (room-next out at b rest room out′ at′ q);
-          same = p .same ∙ rw (split, add-one (i + 1)) (sym (rw (q .output) (stored-more out at b rest at′ (q .place) putting-room)));
+          same = p .same ∙ rw (split, add-one (i + 1)) (sym (rw (q .output) (stored-more out at b rest at′ (q .place) (putting-room (i + 1)))));
         }
 
   -- the last

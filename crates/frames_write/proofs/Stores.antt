@@ -3,11 +3,11 @@ use mir.Syntax.{w64}
 use mir.Val.{Fits}
 use Prim.Native.Nat.{ℕ, _+_, _^_, _≤_, _<_}
 use native.Mathlib.Omega.{arith}
-use mathlib.Core.Path.{_≡_, sym, ap, _∙_}
+use mathlib.Core.Path.{_≡_, refl, sym, ap, _∙_}
 use mathlib.Core.List.{List, _++_}
 use lib.ListN.{length, getD, length-append}
 use Rattle.format.specs.Serialize.{write-uint32}
-use Rattle.format.specs.Frames.{final-mark, write-regular-frame, write-final-frame}
+use Rattle.format.specs.Frames.{Frame, final-mark, write-regular-frame, write-final-frame}
 use Rattle.format.specs.Lent.{bytes-at, part-in, frame-in}
 use Rattle.format.proofs.Serialize.{length-uint32}
 use Rattle.wire.specs.Stored.{stored}
@@ -127,17 +127,23 @@ module _ (text table d : List ℕ) (j at n : ℕ) (h : at + length (write-final-
   unfolding write-final-frame
   final-mark-room = number-room d at final-mark (write-uint32 n ++ (part-in text table j ++ content)) h
 
-  module _ (x : List ℕ) (e : x ≡ stored d at (write-uint32 4294967295)) where
-    numbered : at + 4 + length (write-uint32 n ++ (part-in text table j ++ content)) ≤ length x
+  -- whatever number was stored before
+  module _ (k : ℕ) (x : List ℕ) (e : x ≡ stored d at (write-uint32 k)) where
+    behind-mark : at + 4 + length (write-uint32 n ++ (part-in text table j ++ content)) ≤ length x
     unfolding write-final-frame
-    numbered = behind-number d at final-mark (write-uint32 n ++ (part-in text table j ++ content)) h x e
+    behind-mark =
+        let l = length-uint32 k in
+        let q = length-append (write-uint32 final-mark) (write-uint32 n ++ (part-in text table j ++ content)) in
+        let m = length-uint32 final-mark in
+        let z = still-long d x at (write-uint32 k) e (omega arith) in
+        omega arith
 
     pub final-number : at + 4 + 4 ≤ length x
-    final-number = number-room x (at + 4) n (part-in text table j ++ content) numbered
+    final-number = number-room x (at + 4) n (part-in text table j ++ content) behind-mark
 
     module _ (y : List ℕ) (f : y ≡ stored x (at + 4) (write-uint32 n)) where
       behind : at + 8 + length (part-in text table j ++ content) ≤ length y
-      behind = let k : at + 4 + 4 ≡ at + 8 = omega arith in rw k at (behind-number x (at + 4) n (part-in text table j ++ content) numbered y f)
+      behind = let i : at + 4 + 4 ≡ at + 8 = omega arith in rw i at (behind-number x (at + 4) n (part-in text table j ++ content) behind-mark y f)
 
       pub final-iv : at + 8 + length (part-in text table j) ≤ length y
       final-iv = room-first y (at + 8) (part-in text table j) content behind
@@ -146,9 +152,14 @@ module _ (text table d : List ℕ) (j at n : ℕ) (h : at + length (write-final-
         pub final-sized : t + length (sized (frame-in text table j)) ≤ length z
         final-sized = room-next y (at + 8) (part-in text table j) content behind z t p
 
-        pub final-stored : (out : List ℕ) (u : ℕ) → Puts z t (sized (frame-in text table j)) out u → out ≡ stored d at (write-final-frame n (frame-in text table j))
+        pub final-stored : k ≡ 4294967295 → (out : List ℕ) (u : ℕ) → Puts z t (sized (frame-in text table j)) out u → out ≡ stored d at (write-final-frame n (frame-in text table j))
         unfolding write-final-frame
-        final-stored out u q =
-            let k : at + 4 + 4 ≡ at + 8 = omega arith in
-            let a : Puts y (at + 4 + 4) (part-in text table j ++ content) out u = rw k (then-puts y (at + 8) (part-in text table j) content behind z t p out u q) in
-            then-number d at final-mark _ h x e out u (then-number x (at + 4) n _ numbered y f out u a) .output
+        final-stored mark out u q =
+            let i : at + 4 + 4 ≡ at + 8 = omega arith in
+            let a : Puts y (at + 4 + 4) (part-in text table j ++ content) out u = rw i (then-puts y (at + 8) (part-in text table j) content behind z t p out u q) in
+            then-number d at final-mark _ h x (rw mark at e) out u (then-number x (at + 4) n _ behind-mark y f out u a) .output
+
+-- a regular frame takes the same room with any number
+pub any-number : (f : Frame) (n k : ℕ) → length (write-regular-frame n f) ≡ length (write-regular-frame k f)
+unfolding write-regular-frame
+any-number f n k = rw (length-append (write-uint32 n), length-append (write-uint32 k), length-uint32 n, length-uint32 k) refl

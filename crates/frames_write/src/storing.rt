@@ -65,8 +65,8 @@ fn put_final_frame(text: &[u8], table: &[u32], j: usize, number: u32, out: &mut 
 {
     write_uint32(out, at, FINAL_MARK);
     write_uint32(out, at + 4, number);
-    let len = put_part(text, table, j, out, at + 8);
-    put_sized(text, table, j, out, len);
+    let size = put_part(text, table, j, out, at + 8);
+    put_sized(text, table, j, out, size);
 }
 
 // The last entry becomes the final frame. Numbers run from 1 by one.
