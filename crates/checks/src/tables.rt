@@ -1,5 +1,5 @@
-// Tables of places: two numbers a place, a start and a length in the lent text. Pairs have four numbers each, keys six; what
-// is tested and summed here is the same for both.
+// Tables of places: two numbers a place, a start and a length in the lent text. Pairs have four numbers each, keys and frames six; what
+// is tested and summed here is the same for all.
 use super::Checked;
 use super::fails;
 use wire::refusals::COUNT_OR_PART_TOO_LONG;

@@ -81,7 +81,7 @@ pub const SUITE_DATA_LENGTH: u8 = 25;
 // A table is not in items of four or six numbers, or a place lies outside the lent text.
 pub const TABLE_OR_PLACE: u8 = 26;
 
-// More than 65,535 items, or a part above 65,535 bytes.
+// More than 65,535 items, or a part of a pair or key above 65,535 bytes.
 pub const COUNT_OR_PART_TOO_LONG: u8 = 27;
 
 // The image is longer than the output.
