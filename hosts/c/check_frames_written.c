@@ -188,10 +188,49 @@ static void runs(void)
     }
 }
 
+/* contents of 70,000 bytes, which no entry of a header has, and parts that are right in their lowest bytes alone */
+static void large(void)
+{
+    static uint8_t text[70000];
+    static uint32_t table[6 * 65536 + 3];
+    struct request r = {sizeof text, text, sizeof text, table, 6};
+    size_t i;
+    for (i = 0; i < COUNT(table); i++) {
+        static const uint32_t entry[6] = {0, 12, 0, sizeof text, 7, 16};
+        table[i] = entry[i % 6];
+    }
+    written_is("a long content", measured(r), BAFIROLEN_ACCEPTED, 70040);
+    r.frames_len = 6 * 65535;
+    written_is("a length of 33 bits", measured(r), BAFIROLEN_ACCEPTED, 4589547128u);
+    written_into("what 32 bits keep of it", r, 294579832, BAFIROLEN_REFUSED_OUTPUT_TOO_SHORT, text, 0);
+    for (i = 1; i < 6; i++) {
+        r.frames_len = 6 + i;
+        refused_by("a table beyond a frame", r, BAFIROLEN_REFUSED_TABLE_OR_PLACE);
+    }
+    r.frames_len = COUNT(table);
+    refused_by("26 before 27", r, BAFIROLEN_REFUSED_TABLE_OR_PLACE);
+    r.frames_len = 6;
+    table[1] = 268;
+    refused_by("an IV of 268", r, BAFIROLEN_REFUSED_IV_LENGTH);
+    table[1] = 65548;
+    refused_by("an IV of 65,548", r, BAFIROLEN_REFUSED_IV_LENGTH);
+    table[1] = 12;
+    table[5] = 272;
+    refused_by("a tag of 272", r, BAFIROLEN_REFUSED_TAG_LENGTH);
+    table[5] = 65552;
+    refused_by("a tag of 65,552", r, BAFIROLEN_REFUSED_TAG_LENGTH);
+    r.frame_length = 4464;
+    table[5] = 16;
+    refused_by("a final content of 70,000", r, BAFIROLEN_REFUSED_FINAL_CONTENT_TOO_LONG);
+    r.frames_len = 12;
+    refused_by("a content of 70,000", r, BAFIROLEN_REFUSED_REGULAR_CONTENT_LENGTH);
+}
+
 int main(void)
 {
     images();
     refusals();
     runs();
+    large();
     return compared();
 }
