@@ -11,11 +11,12 @@
 //! # Lending
 //!
 //! No function but [`header_body_to_vec`] and [`frames_to_vec`] allocates, and
-//! none keeps anything. A reader takes a message and the place where it starts, and fills lent
-//! tables of numbers with the places of what it read: [`NUMBERS_PER_PAIR`]
-//! numbers for each pair of the encryption context, [`NUMBERS_PER_KEY`] for each
-//! encrypted data key, [`NUMBERS_PER_FRAME`] for each frame. Its answer borrows
-//! both, and gives the pairs, keys and frames as parts of the message.
+//! none keeps anything. A reader takes a message and the place where it starts,
+//! and fills lent tables of numbers with the places of what it read:
+//! [`NUMBERS_PER_PAIR`] numbers for each pair of the encryption context,
+//! [`NUMBERS_PER_KEY`] for each encrypted data key, [`NUMBERS_PER_FRAME`] for
+//! each frame. Its answer borrows both, and gives the pairs, keys and frames as
+//! parts of the message.
 //! A writer takes such tables with places in a lent text, and fills a lent
 //! output from its first byte; how long an output a body takes, and how long
 //! frames, [`header_body_len`] and [`frames_len`] say before. What is lent keeps
@@ -87,7 +88,7 @@
 //!
 //! Behind a body [`write_header_auth_tag`] writes its authentication record, and
 //! behind that [`write_frames`] writes the frames, whose IVs, contents and tags a
-//! cipher gave. Frames that were read are written from their
+//! cipher gave. Up to 65,535 frames that were read are written again, from their
 //! [`frame_table`](Frames::frame_table), to the bytes that were read.
 //!
 //! # Refusals
