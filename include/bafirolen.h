@@ -1,7 +1,7 @@
 /*
  * Message headers of the AWS Encryption SDK: reads, writes and lists header bodies, reads and writes their two sections and
- * authentication records, and reads the frames behind them. For hosts in C99 and C++11 and later. Nothing is verified, signed or
- * decrypted: that a header or a frame is accepted says how it is built, and not whose it is.
+ * authentication records, and the frames behind them. For hosts in C99 and C++11 and later. Nothing is verified, signed, encrypted
+ * or decrypted: that a header or a frame is accepted says how it is built, and not whose it is.
  *
  * Link libbafirolen_c.a: code for x86-64 and the System V calling convention (Linux). It calls memcpy and memset, and nothing
  * else. In the repository `rt staticlib bafirolen_c` writes it into target/staticlib, and hosts/c has examples.
@@ -28,10 +28,10 @@
  *
  * The comment of each function lists the refusals that it can answer ("Refuses"), in the order of its tests: of two that apply
  * the first is answered. 10, 11, 12 and, in reading, 32 are tested of one pair after the other, 16 of one key after the other,
- * and 34 and 35 of one frame after the other, so that the first pair, key or frame with a fault decides. 2 is answered where the
- * next field is not all there. Fields are read one by one, but the context section is awaited whole, once its length is read,
- * before any of its pairs is tested. In it the count, and the length and bytes of each key and value, are refused by 32 where they
- * would end past the section, before they are read.
+ * and of one frame after the other 34 and 35 in reading, 19 and 30 in writing, so that the first pair, key or frame with a fault
+ * decides. 2 is answered where the next field is not all there. Fields are read one by one, but the context section is awaited
+ * whole, once its length is read, before any of its pairs is tested. In it the count, and the length and bytes of each key and
+ * value, are refused by 32 where they would end past the section, before they are read.
  *
  * WHAT TO DO WITH A REFUSAL.
  * BAFIROLEN_REFUSED_SHORTAGE: fetch more, until the message has at least `position` bytes, and call again; with fewer the answer
@@ -41,12 +41,12 @@
  * end there, the message is damaged, and is refused by 32 as soon as the section is there.
  * BAFIROLEN_REFUSED_PAIR_TABLE_TOO_SHORT, .._KEY_TABLE_TOO_SHORT, .._OUTPUT_TOO_SHORT: lend more, and call again. The answer does
  * not say how much: lend twice as much, or a table of BAFIROLEN_LARGEST_PAIR_TABLE or BAFIROLEN_LARGEST_KEY_TABLE numbers, or of
- * as many as bafirolen_frame_table_len gives for frames. How long an output has to be, bafirolen_header_body_len says of a body
- * before it is written, and of all else the writers' comments. The two calls and the listing have tables of their own; where these
- * are too short, call bafirolen_read_header_body.
+ * as many as bafirolen_frame_table_len gives for frames. How long an output has to be, bafirolen_header_body_len says of a body and
+ * bafirolen_frames_len of frames before they are written, and of all else the writers' comments. The two calls and the listing have
+ * tables of their own; where these are too short, call bafirolen_read_header_body.
  * Every other: neither more bytes nor more room change it. From a reader: reject the message (4, 15 and 21 depend on what you
- * asked for). From a writer: correct the fields, or with 31 the required table; bafirolen_write_only_authenticated is a writer
- * with 31 and 28, and a reader with all others. BAFIROLEN_REFUSED_NOT_FOUND: the context is good and lacks this key.
+ * asked for). From a writer: correct the fields or frames, or with 31 the required table; bafirolen_write_only_authenticated is a
+ * writer with 31 and 28, and a reader with all others. BAFIROLEN_REFUSED_NOT_FOUND: the context is good and lacks this key.
  *
  * Names are those of the AWS Encryption SDK's message format: a header has an encryption context (pairs of key and value) and
  * encrypted data keys (key provider ID, key provider info, ciphertext); "key" alone is either, by where it stands. Pairs and keys
@@ -70,7 +70,7 @@ extern "C" {
  * The version of these declarations, which grows by one with each change of them. bafirolen_version gives that of the archive:
  * where the two differ, the archive was made for another header file than this.
  */
-#define BAFIROLEN_VERSION 6
+#define BAFIROLEN_VERSION 7
 uint32_t bafirolen_version(void);
 
 /*
@@ -80,7 +80,7 @@ uint32_t bafirolen_version(void);
  * BAFIROLEN_STACK_KEYS.
  */
 #define BAFIROLEN_STACK_READ 40960               /* read a context section or a body; find and copy a value */
-#define BAFIROLEN_STACK_KEYS 1024                /* read and write a key section or an authentication record; read frames */
+#define BAFIROLEN_STACK_KEYS 1024                /* key sections, authentication records and frames, and the length of frames */
 #define BAFIROLEN_STACK_ONLY_AUTHENTICATED 57344 /* write the pairs of required keys, whose order lies on the stack */
 #define BAFIROLEN_STACK_LISTED 73728             /* the number, the position, the listing: their tables lie on the stack */
 #define BAFIROLEN_STACK_WRITE 143360             /* write a context section or a body; the length of a body */
@@ -181,10 +181,11 @@ BafirolenSection bafirolen_read_frames(const uint8_t *message, size_t message_le
  * WRITING. A writer changes `out`, and nothing else, and that only where it accepts: the bytes from the first on, `length` of
  * them; the bytes after those are left as they were. A table holds places of `text`, in the order that readers fill: what a reader
  * filled can be handed to a writer, its message as the text. The numbers of a table are all taken: lend just four a pair, or six a
- * key. Zeros at the end of a longer table are places of length 0 and would be written as empty pairs or keys.
+ * key or frame. Zeros at the end of a longer table are places of length 0: empty pairs or keys, and 19 of frames.
  * A body that the reader of either version accepted is so written again, with the numbers that it gave, to exactly the bytes from
- * its start to its tail: the writer follows the form. (A reader that is asked for one version may give a frame length that the
- * writer refuses by 20.) A section alone has no form to follow: an empty context is then written 00 00, however it was read.
+ * its start to its tail: the writer follows the form. Up to 65,535 frames likewise, with the length that they were read by. (A
+ * reader that is asked for one version may give a frame length that the writer of bodies refuses by 20.) A section alone has no
+ * form to follow: an empty context is then written 00 00, however it was read.
  */
 
 /*
@@ -240,6 +241,27 @@ BafirolenWritten bafirolen_header_body_len(BafirolenNumbers numbers, const uint8
                                            const uint8_t *suite_data, size_t suite_data_len, const uint8_t *text,
                                            size_t text_len, const uint32_t *pairs, size_t pairs_len, const uint32_t *keys,
                                            size_t keys_len);
+
+/*
+ * Writes frames, which stand behind an authentication record: six numbers a frame, of which the last becomes the final one. They
+ * are numbered from 1. Before the last each takes 32 bytes and content of frame_length bytes, the last 40 and content of at most so
+ * many. With the same frame length bafirolen_read_frames gives the same parts again, if all take at most 4,294,967,295 bytes.
+ * Refuses: 20 26 36 27 19 30 37 35 28.
+ * 20 where frame_length is 0; 36 where the table is empty; 27 for the count alone; 19 and 30 of all frames before 37, where a
+ * content before the last has not frame_length bytes, and 35, where the last has more.
+ * Stack: BAFIROLEN_STACK_KEYS.
+ */
+BafirolenWritten bafirolen_write_frames(uint32_t frame_length, const uint8_t *text, size_t text_len, const uint32_t *frames,
+                                        size_t frames_len, uint8_t *out, size_t out_len);
+
+/*
+ * Says how long an output bafirolen_write_frames needs, as bafirolen_header_body_len does for a body. Frames may share their places
+ * too: up to 281 TB. Changes nothing.
+ * Refuses: 20 26 36 27 19 30 37 35.
+ * Stack: BAFIROLEN_STACK_KEYS.
+ */
+BafirolenWritten bafirolen_frames_len(uint32_t frame_length, const uint8_t *text, size_t text_len, const uint32_t *frames,
+                                      size_t frames_len);
 
 /*
  * Writes what a station authenticates without storing it: of the context section at `start`, read tolerantly, the pairs with the

@@ -28,7 +28,7 @@ enum BafirolenRefusal {
     BAFIROLEN_REFUSED_PROVIDER_ID_NOT_UTF8 = 16,
     BAFIROLEN_REFUSED_CONTENT_TYPE = 17,
     BAFIROLEN_REFUSED_RESERVED_BYTES = 18,
-    BAFIROLEN_REFUSED_IV_LENGTH = 19,
+    BAFIROLEN_REFUSED_IV_LENGTH = 19, /* of a header, of an authentication record, or in writing of a frame */
     BAFIROLEN_REFUSED_FRAME_LENGTH = 20,      /* framed content or frames with 0, or non-framed content with another */
     BAFIROLEN_REFUSED_OLD_EMPTY_CONTEXT = 21, /* strict: 00 02 00 00 */
     BAFIROLEN_REFUSED_PAIR_TABLE_TOO_SHORT = 22,
@@ -36,15 +36,17 @@ enum BafirolenRefusal {
     BAFIROLEN_REFUSED_ID_LENGTH = 24,         /* 16 bytes in version 1, 32 in version 2 */
     BAFIROLEN_REFUSED_SUITE_DATA_LENGTH = 25, /* 0 bytes in version 1, 32 in version 2 */
     BAFIROLEN_REFUSED_TABLE_OR_PLACE = 26,
-    BAFIROLEN_REFUSED_COUNT_OR_PART_TOO_LONG = 27,
+    BAFIROLEN_REFUSED_COUNT_OR_PART_TOO_LONG = 27, /* of frames the count alone */
     BAFIROLEN_REFUSED_OUTPUT_TOO_SHORT = 28,
     BAFIROLEN_REFUSED_NOT_FOUND = 29,
-    BAFIROLEN_REFUSED_TAG_LENGTH = 30,
+    BAFIROLEN_REFUSED_TAG_LENGTH = 30, /* of an authentication record, or of a frame */
     BAFIROLEN_REFUSED_REQUIRED_TABLE_OR_PLACE = 31,
     BAFIROLEN_REFUSED_PAST_SECTION = 32, /* a count, or the length or the bytes of a key or value */
     BAFIROLEN_REFUSED_PAIR_IN_OLD_FORM = 33, /* in writing alone */
     BAFIROLEN_REFUSED_SEQUENCE_NUMBER = 34,  /* they run from 1 by one, the final frame's included */
-    BAFIROLEN_REFUSED_FINAL_CONTENT_TOO_LONG = 35
+    BAFIROLEN_REFUSED_FINAL_CONTENT_TOO_LONG = 35, /* in reading and in writing */
+    BAFIROLEN_REFUSED_NO_FRAME = 36,               /* in writing alone, as 37 */
+    BAFIROLEN_REFUSED_REGULAR_CONTENT_LENGTH = 37
 };
 
 /* A refusal in words. Any other number has the words for unknown ones. */
@@ -70,7 +72,7 @@ static inline const char *bafirolen_refusal_text(uint64_t number)
         "provider ID not UTF-8",
         "content type not 01 or 02",
         "reserved bytes not 0",
-        "IV length not the suite's (writing a body of version 2: not 0)",
+        "IV length not the suite's (writing a body of version 2: not 0; a frame: not 12)",
         "frame length against content type, or frames with length 0",
         "the old form of an empty context",
         "pair table too short",
@@ -78,7 +80,7 @@ static inline const char *bafirolen_refusal_text(uint64_t number)
         "message ID of another length",
         "suite data of another length",
         "table not in fours or sixes, or a place outside the text",
-        "more than 65,535 items, or a part above 65,535 bytes",
+        "more than 65,535 items, or a part of a pair or key above 65,535 bytes",
         "output too short",
         "no pair has the key",
         "tag not 16 bytes",
@@ -87,6 +89,8 @@ static inline const char *bafirolen_refusal_text(uint64_t number)
         "a pair in a body marked as of the old form",
         "sequence number of a frame not the next one",
         "content of the final frame longer than the frame length",
+        "no frame to write",
+        "content of a frame before the last not of the frame length",
     };
     return number < sizeof texts / sizeof *texts ? texts[number] : "unknown refusal";
 }

@@ -9,7 +9,7 @@
 /* what a call is lent to change, and what it answers */
 struct lent {
     uint32_t pairs[4 * MOST_PAIRS], keys[6 * MOST_KEYS], frames[6 * MOST_FRAMES];
-    uint8_t out[2 * sizeof body.bytes + 28];
+    uint8_t out[sizeof frames.bytes > 2 * sizeof body.bytes + 28 ? sizeof frames.bytes : 2 * sizeof body.bytes + 28];
     union answered answer;
 };
 
@@ -61,6 +61,18 @@ static void read_keys(void)
 static void read_frames(void)
 {
     lent->answer.section = bafirolen_read_frames(frames.bytes, frames.length, 0, frames.frame_length, lent->frames, frames_len);
+}
+
+static void write_frames(void)
+{
+    lent->answer.written = bafirolen_write_frames(frames.frame_length, frames.bytes, frames.length, frames.table, 6 * frames.count,
+                                                  lent->out, out_len);
+}
+
+static void frames_length(void)
+{
+    lent->answer.written =
+        bafirolen_frames_len(frames.frame_length, frames.bytes, frames.length, frames.table, 6 * frames.count);
 }
 
 static void find(void)

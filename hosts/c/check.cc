@@ -1,8 +1,8 @@
 /*
  * A host in C++: bafirolen.h is included twice, what is empty is lent as an empty vector has it; header H is read, its pairs and
  * keys are gone through, it is measured and written again, as is one with an empty context in the old form, and what is
- * authenticated of its context is written alone; frames are read and gone through. Writes `compared N cases`; a difference is
- * written to standard error, and the exit status is 1.
+ * authenticated of its context is written alone; frames are read, gone through, measured and written again. Writes `compared N
+ * cases`; a difference is written to standard error, and the exit status is 1.
  *
  *     rt staticlib bafirolen_c
  *     g++ -std=c++11 -O2 -Wall -Wextra -Wpedantic -Iinclude hosts/c/check.cc target/staticlib/libbafirolen_c.a -o target/check
@@ -149,6 +149,21 @@ void put(Bytes &message, uint32_t number)
     }
 }
 
+/* frames of 4 bytes that stand from 86 on, from the table that they were read into; without a table there is none */
+void frames_again(const Bytes &message, const Table &table)
+{
+    const BafirolenWritten n = bafirolen_frames_len(4, message.data(), message.size(), table.data(), table.size());
+    same("the frames' length", n.number == 0 && n.position == 0 && n.length == message.size() - 86, true);
+    Bytes out(n.length);
+    const BafirolenWritten w =
+        bafirolen_write_frames(4, message.data(), message.size(), table.data(), table.size(), out.data(), out.size());
+    same("the frames written", w.number == 0 && w.position == 0 && w.length == n.length, true);
+    same("their bytes", out, Bytes(message.begin() + 86, message.end()));
+    const BafirolenWritten none = bafirolen_write_frames(4, message.data(), message.size(), nullptr, 0, out.data(), out.size());
+    same("no frame", none.number == BAFIROLEN_REFUSED_NO_FRAME && none.position == 0 && none.length == 0, true);
+    same("its bytes", out, Bytes(message.begin() + 86, message.end()));
+}
+
 /* three frames of 4 bytes behind the record of H, the final one empty; the table is as long as any of these bytes could need */
 void frames()
 {
@@ -175,6 +190,8 @@ void frames()
         same("a tag", part(message, &table[BAFIROLEN_NUMBERS_PER_FRAME * i + 4]), std::string(16, char(0xB1 + i)));
     }
     same("the contents", contents, std::vector<std::string>{"abc\1", "abc\2", ""});
+    table.resize(BAFIROLEN_NUMBERS_PER_FRAME * s.count);
+    frames_again(message, table);
     const BafirolenSection none = bafirolen_read_frames(nullptr, 0, 0, 0, nullptr, 0);
     same("no frame length", none.number == BAFIROLEN_REFUSED_FRAME_LENGTH && none.position == 0 && none.tail == 0, true);
 }
@@ -185,7 +202,7 @@ int main()
 {
     same("the version of the declarations", bafirolen_version(), uint32_t(BAFIROLEN_VERSION));
     same("the text of a refusal", std::string(bafirolen_refusal_text(BAFIROLEN_REFUSED_NOT_FOUND)), "no pair has the key");
-    same("the text of no refusal", std::string(bafirolen_refusal_text(36)), "unknown refusal");
+    same("the text of no refusal", std::string(bafirolen_refusal_text(38)), "unknown refusal");
     read_and_write_again();
     old_form_again();
     only_authenticated();

@@ -1,7 +1,8 @@
 /*
- * A host in C: calls every exported operation that writes but one, and the reader of authentication records beside its writer; as
+ * A host in C: calls every exported operation that writes but two, and the reader of authentication records beside its writer; as
  * check_readers.c does for what reads. A body is measured before it is written. check_only_authenticated.c has the one that reads a
- * message and writes, check_forms.c bodies of both forms, and check_lengths.c more of how long they are.
+ * message and writes, check_frames_written.c the writer of frames, check_forms.c bodies of both forms, and check_lengths.c more of
+ * how long they are.
  */
 #include "compare.h"
 

@@ -207,6 +207,21 @@ static size_t in_old_form(const uint8_t *header, size_t n, size_t section, uint8
     return append(m, length, header + behind, n - behind);
 }
 
+/* the two frames measured and written again at every room up to a few bytes more than their length */
+static void write_frames_again(void)
+{
+    size_t room;
+    fresh();
+    for (room = 0; room <= sizeof RUN + 3; room++) {
+        uint8_t *o = lend(fresh_bytes, room);
+        const uint8_t *text = lend_const(RUN, sizeof RUN);
+        const uint32_t *t = lend_const(RUN_table, sizeof RUN_table);
+        written_is("the length of frames", bafirolen_frames_len(3, text, sizeof RUN, t, 12), 0, sizeof RUN);
+        holds("frames", bafirolen_write_frames(3, text, sizeof RUN, t, 12, o, room), o, room, RUN, sizeof RUN);
+        let_go();
+    }
+}
+
 /* a context section, what is authenticated of it, a key section, a record and a listing at every room up to their lengths */
 static void write_parts(void)
 {
@@ -254,5 +269,6 @@ int main(void)
     write_again(old, in_old_form(V2, sizeof V2, 35, old));
     write_parts();
     read_frame_cuts();
+    write_frames_again();
     return compared();
 }

@@ -8,139 +8,9 @@
  *     gcc -std=c99 -O2 -Wall -Wextra -Iinclude hosts/c/null.c target/staticlib/libbafirolen_c.a -o target/null
  *     valgrind --error-exitcode=1 target/null
  */
-#include "hollow.h"
+#include "null_calls.h"
 
 #include <stdlib.h>
-
-static const struct header *h;
-
-/* which of a call's lent parts are empty, in their order, and the pointer that those have */
-static unsigned empty;
-static void *empty_part;
-
-#define LENT(part, bytes, length) (empty >> (part)&1 ? empty_part : (void *)(bytes)), (empty >> (part)&1 ? 0 : (length))
-#define MESSAGE LENT(0, h->bytes, h->length)
-
-static struct answer {
-    union answered record;
-    uint32_t pairs[NUMBERS], keys[NUMBERS];
-    uint8_t out[BYTES];
-} answer;
-
-static void number(void)
-{
-    answer.record.number = bafirolen_header_number(MESSAGE, 0);
-}
-
-static void position(void)
-{
-    answer.record.number = bafirolen_header_position(MESSAGE, 0);
-}
-
-static void listing(void)
-{
-    answer.record.written = bafirolen_write_listing(MESSAGE, LENT(1, out, BYTES));
-}
-
-static void read_body(void)
-{
-    answer.record.body = bafirolen_read_header_body(MESSAGE, 0, BAFIROLEN_EITHER, BAFIROLEN_TOLERANT, BAFIROLEN_NO_MAX, 0,
-                                                    LENT(1, pairs, NUMBERS), LENT(2, keys, NUMBERS));
-    clear_behind_numbers(&answer.record.body);
-}
-
-static void read_context(void)
-{
-    answer.record.section = bafirolen_read_aad_section(MESSAGE, h->context, BAFIROLEN_TOLERANT, LENT(1, pairs, NUMBERS));
-}
-
-static void read_keys(void)
-{
-    answer.record.section =
-        bafirolen_read_encrypted_data_keys_section(MESSAGE, h->keys, BAFIROLEN_NO_MAX, 0, LENT(1, keys, NUMBERS));
-}
-
-static void read_record(void)
-{
-    answer.record.auth = bafirolen_read_header_auth_tag(MESSAGE, 0, h->numbers.suite);
-    clear_behind_tag(&answer.record.auth);
-}
-
-static void read_frames(void)
-{
-    answer.record.section = bafirolen_read_frames(LENT(0, RUN, sizeof RUN), 0, 3, LENT(1, keys, NUMBERS));
-}
-
-static void find(void)
-{
-    answer.record.place = bafirolen_find_value(MESSAGE, h->context, LENT(1, h->key, strlen(h->key)));
-}
-
-static void copy(void)
-{
-    answer.record.written = bafirolen_copy_value(MESSAGE, h->context, LENT(1, h->key, strlen(h->key)), LENT(2, out, BYTES));
-}
-
-static void write_context(void)
-{
-    answer.record.written = bafirolen_write_aad_section(MESSAGE, LENT(1, h->pair_table, h->pair_numbers), LENT(2, out, BYTES));
-}
-
-static void write_keys(void)
-{
-    answer.record.written =
-        bafirolen_write_encrypted_data_keys_section(MESSAGE, LENT(1, h->key_table, h->key_numbers), LENT(2, out, BYTES));
-}
-
-static void write_record(void)
-{
-    answer.record.written =
-        bafirolen_write_header_auth_tag(h->numbers.suite, LENT(0, H, 12), LENT(1, H + 12, 16), LENT(2, out, BYTES));
-}
-
-/* the parts in another order than the parameters, so that the text is part 0 as in the other writers */
-static void write_body(void)
-{
-    answer.record.written = bafirolen_write_header_body(
-        h->numbers, LENT(3, h->bytes + h->id, h->id_length), LENT(4, h->bytes + h->data, h->data_length), MESSAGE,
-        LENT(1, h->pair_table, h->pair_numbers), LENT(5, h->key_table, h->key_numbers), LENT(2, out, BYTES));
-}
-
-static void body_length(void)
-{
-    answer.record.written = bafirolen_header_body_len(
-        h->numbers, LENT(2, h->bytes + h->id, h->id_length), LENT(3, h->bytes + h->data, h->data_length), MESSAGE,
-        LENT(1, h->pair_table, h->pair_numbers), LENT(4, h->key_table, h->key_numbers));
-}
-
-/* the key to find is all that is required */
-static void write_only_authenticated(void)
-{
-    const uint32_t required[2] = {0, (uint32_t)strlen(h->key)};
-    answer.record.written = bafirolen_write_only_authenticated(MESSAGE, h->context, LENT(1, h->key, strlen(h->key)),
-                                                               LENT(2, required, COUNT(required)), LENT(3, out, BYTES));
-}
-
-static const struct export {
-    const char *name;
-    void (*call)(void);
-    unsigned parts;
-} exports[] = {{"bafirolen_header_number", number, 1},
-               {"bafirolen_header_position", position, 1},
-               {"bafirolen_write_listing", listing, 2},
-               {"bafirolen_read_header_body", read_body, 3},
-               {"bafirolen_read_aad_section", read_context, 2},
-               {"bafirolen_read_encrypted_data_keys_section", read_keys, 2},
-               {"bafirolen_read_header_auth_tag", read_record, 1},
-               {"bafirolen_read_frames", read_frames, 2},
-               {"bafirolen_find_value", find, 2},
-               {"bafirolen_copy_value", copy, 3},
-               {"bafirolen_write_aad_section", write_context, 3},
-               {"bafirolen_write_encrypted_data_keys_section", write_keys, 3},
-               {"bafirolen_write_header_auth_tag", write_record, 3},
-               {"bafirolen_write_header_body", write_body, 6},
-               {"bafirolen_header_body_len", body_length, 5},
-               {"bafirolen_write_only_authenticated", write_only_authenticated, 4}};
 
 /* the call with those parts empty by that pointer: its answer, and what it was lent afterwards */
 static void ask(void (*call)(void), unsigned parts, void *pointer)
@@ -242,6 +112,23 @@ static void writers(void)
     output_is("a bare header in the old form", OLD, 36);
 }
 
+/* frames: no table, and places of no bytes in no text */
+static void frames(void)
+{
+    static const uint32_t nothing[6], outside[6] = {0, 12, 0, 0, 0, 16};
+    written_is("no frame", bafirolen_frames_len(3, NULL, 0, NULL, 0), BAFIROLEN_REFUSED_NO_FRAME, 0);
+    written_is("no frame", bafirolen_write_frames(3, NULL, 0, NULL, 0, NULL, 0), BAFIROLEN_REFUSED_NO_FRAME, 0);
+    written_is("no frame length", bafirolen_write_frames(0, NULL, 0, NULL, 0, NULL, 0), BAFIROLEN_REFUSED_FRAME_LENGTH, 0);
+    written_is("no IV of a frame", bafirolen_write_frames(3, NULL, 0, nothing, 6, NULL, 0), BAFIROLEN_REFUSED_IV_LENGTH, 0);
+    written_is("an IV in no text", bafirolen_frames_len(3, NULL, 0, outside, 6), BAFIROLEN_REFUSED_TABLE_OR_PLACE, 0);
+    written_is("the length of frames", bafirolen_frames_len(3, RUN, sizeof RUN, RUN_table, 12), 0, sizeof RUN);
+    written_is("no room for frames", bafirolen_write_frames(3, RUN, sizeof RUN, RUN_table, 12, NULL, 0),
+               BAFIROLEN_REFUSED_OUTPUT_TOO_SHORT, 0);
+    fresh();
+    written_is("frames", bafirolen_write_frames(3, RUN, sizeof RUN, RUN_table, 12, out, BYTES), 0, sizeof RUN);
+    output_is("frames", RUN, sizeof RUN);
+}
+
 static void required_keys(void)
 {
     static const uint32_t lang[2] = {0, 4}, none[2] = {0, 0};
@@ -284,6 +171,7 @@ int main(void)
     }
     readers();
     writers();
+    frames();
     required_keys();
     free(allocated);
     return compared();

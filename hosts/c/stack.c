@@ -41,6 +41,8 @@ static struct export {
                {"bafirolen_read_header_auth_tag", read_record, BAFIROLEN_STACK_KEYS, 0},
                {"bafirolen_write_header_auth_tag", write_record, BAFIROLEN_STACK_KEYS, 0},
                {"bafirolen_read_frames", read_frames, BAFIROLEN_STACK_KEYS, 0},
+               {"bafirolen_write_frames", write_frames, BAFIROLEN_STACK_KEYS, 0},
+               {"bafirolen_frames_len", frames_length, BAFIROLEN_STACK_KEYS, 0},
                {"bafirolen_write_only_authenticated", write_only_authenticated, BAFIROLEN_STACK_ONLY_AUTHENTICATED, 0},
                {"bafirolen_header_number", number, BAFIROLEN_STACK_LISTED, 0},
                {"bafirolen_header_position", position, BAFIROLEN_STACK_LISTED, 0},
@@ -114,11 +116,28 @@ static struct lent *lend(struct lent *l)
     return l;
 }
 
+/* frames that a writer takes are as long as those that were built, and beyond 65,535 of them it takes none */
+static void frames_accepted(const struct export *e)
+{
+    const int most = frames.count <= 65535;
+    same(e->name, at_the_end.answer.number, most ? BAFIROLEN_ACCEPTED : BAFIROLEN_REFUSED_COUNT_OR_PART_TOO_LONG);
+    same(e->name, at_the_end.answer.written.length, most ? frames.length : 0);
+    if (e->call == write_frames && most) {
+        same_bytes(e->name, at_the_end.out, frames.bytes, frames.length);
+    }
+}
+
 /* a body without a fault is accepted: what takes the most stack is not left out by a refusal */
 static void accepted(const struct export *e)
 {
     const int bare = e->call == version || e->call == number || e->call == position;
     const int finds = e->call == find || e->call == copy;
+    if (e->call == write_frames || e->call == frames_length) {
+        if (shape.fault == NO_FAULT) {
+            frames_accepted(e);
+        }
+        return;
+    }
     if (shape.fault == NO_FAULT && !bare && !(finds && (shape.pairs == 0 || find_key == absent))) {
         same(e->name, at_the_end.answer.number, BAFIROLEN_ACCEPTED);
         if (e->call == write_body || e->call == body_length) {
@@ -158,7 +177,7 @@ static void run_all(struct shape s)
     pairs_len = 4 * s.pairs;
     keys_len = 6 * s.keys;
     frames_len = 6 * (1 + s.pairs + s.keys);
-    out_len = 2 * body.length + 28;
+    out_len = frames.length > 2 * body.length + 28 ? frames.length : 2 * body.length + 28;
     for (i = 0; i < COUNT(exports); i++) {
         find_key = body.bytes + body.last_key;
         run(&exports[i]);
@@ -171,11 +190,14 @@ static void run_all(struct shape s)
 
 static void *run_bodies(void *unused)
 {
-    /* on each side of the sizes that the index of seen keys has, 32, 512 and 1,024, and about as many pairs as fit */
+    /* on each side of the sizes that the index of seen keys has, 32, 512 and 1,024, and about as many pairs as fit; and as many
+     * frames as are written, one more than there are pairs and keys */
     static const uint32_t pairs_of[] = {0, 1, 2, 32, 33, 512, 513, 1024, 1025};
     static const struct shape large[] = {{1, MOST_PAIRS, 60, SHUFFLED, NO_FAULT, BAFIROLEN_TODAY},
                                          {2, MOST_PAIRS, 0, DESCENDING, KEY_AGAIN, BAFIROLEN_TODAY},
                                          {1, 1, MOST_KEYS, ASCENDING, NO_FAULT, BAFIROLEN_TODAY},
+                                         {2, 4, MOST_KEYS - 5, ASCENDING, NO_FAULT, BAFIROLEN_TODAY},
+                                         {1, 4, MOST_KEYS - 5, ASCENDING, BAD_VALUE, BAFIROLEN_TODAY},
                                          {2, MOST_PAIRS, MOST_KEYS, ASCENDING, NO_FAULT, BAFIROLEN_TODAY},
                                          {1, 1023, 682, SHUFFLED, NO_FAULT, BAFIROLEN_TODAY},
                                          {2, 1024, 682, ASCENDING, NO_FAULT, BAFIROLEN_TODAY},

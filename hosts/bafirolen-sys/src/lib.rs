@@ -31,7 +31,7 @@ pub use records::{
 
 /// The declarations here are those of an archive whose [`bafirolen_version`]
 /// answers this.
-pub const VERSION: u32 = 6;
+pub const VERSION: u32 = 7;
 
 extern "C" {
     /// Which declarations the archive was made for.
@@ -201,6 +201,28 @@ extern "C" {
         pairs_len: usize,
         keys: *const u32,
         keys_len: usize,
+    ) -> BafirolenWritten;
+
+    /// Writes the frames at a table's places in the text, six numbers a frame;
+    /// the last becomes the final one.
+    pub fn bafirolen_write_frames(
+        frame_length: u32,
+        text: *const u8,
+        text_len: usize,
+        frames: *const u32,
+        frames_len: usize,
+        out: *mut u8,
+        out_len: usize,
+    ) -> BafirolenWritten;
+
+    /// The length of the frames that [`bafirolen_write_frames`] would write, or
+    /// the first of its refusals but 28. Nothing is changed.
+    pub fn bafirolen_frames_len(
+        frame_length: u32,
+        text: *const u8,
+        text_len: usize,
+        frames: *const u32,
+        frames_len: usize,
     ) -> BafirolenWritten;
 
     /// Writes, of the context section at `start`, read tolerantly, the pairs

@@ -41,8 +41,8 @@ pub const fn frame_table_len(bytes: usize, frame_length: u32) -> usize {
 /// archive and rounded up, and a test holds it to them; nothing proves them.
 pub const STACK_READ: usize = 40_960;
 
-/// Bytes of stack for key sections and authentication records, read or written,
-/// and to read frames.
+/// Bytes of stack for key sections, authentication records and frames, read or
+/// written, and for [`frames_len`](crate::frames_len).
 pub const STACK_KEYS: usize = 1_024;
 
 /// Bytes of stack for

@@ -43,7 +43,8 @@ impl<'m, 't> Frames<'m, 't> {
 
     /// What was filled of the table: [`NUMBERS_PER_FRAME`] numbers a frame,
     /// start and length of its IV, of its content and of its tag. It is that of
-    /// all frames, however many are still to come.
+    /// all frames, however many are still to come. With the message as the text
+    /// [`write_frames`](crate::write_frames) takes it as it is.
     #[inline]
     #[must_use]
     pub fn frame_table(&self) -> &'t [u32] {

@@ -1,7 +1,8 @@
-//! A codec of AWS Encryption SDK message headers, and a reader of the frames
-//! behind them: a safe wrapper of proved operations, which lie in the archive
-//! that `bafirolen-sys` links. Nothing is verified, signed or decrypted: that a
-//! header or a frame is accepted says how it is built, and not whose it is.
+//! A codec of AWS Encryption SDK message headers, and of the frames behind them:
+//! a safe wrapper of proved operations, which lie in the archive that
+//! `bafirolen-sys` links. Nothing is verified, signed, encrypted or decrypted:
+//! that a header or a frame is accepted says how it is built, and not whose it
+//! is.
 //!
 //! A header has an encryption context, pairs of key and value, and encrypted
 //! data keys. Both keep their order: no order is tested, and nothing is sorted,
@@ -9,16 +10,17 @@
 //!
 //! # Lending
 //!
-//! No function but [`header_body_to_vec`] allocates, and none keeps anything.
-//! A reader takes a message and the place where it starts, and fills lent
-//! tables of numbers with the places of what it read: [`NUMBERS_PER_PAIR`]
-//! numbers for each pair of the encryption context, [`NUMBERS_PER_KEY`] for each
-//! encrypted data key, [`NUMBERS_PER_FRAME`] for each frame. Its answer borrows
-//! both, and gives the pairs, keys and frames as parts of the message.
+//! No function but [`header_body_to_vec`] and [`frames_to_vec`] allocates, and
+//! none keeps anything. A reader takes a message and the place where it starts,
+//! and fills lent tables of numbers with the places of what it read:
+//! [`NUMBERS_PER_PAIR`] numbers for each pair of the encryption context,
+//! [`NUMBERS_PER_KEY`] for each encrypted data key, [`NUMBERS_PER_FRAME`] for
+//! each frame. Its answer borrows both, and gives the pairs, keys and frames as
+//! parts of the message.
 //! A writer takes such tables with places in a lent text, and fills a lent
-//! output from its first byte; how long an output a body takes,
-//! [`header_body_len`] says before. What is lent keeps its entries beyond those
-//! filled, and on a refusal all of them.
+//! output from its first byte; how long an output a body takes, and how long
+//! frames, [`header_body_len`] and [`frames_len`] say before. What is lent keeps
+//! its entries beyond those filled, and on a refusal all of them.
 //!
 //! Tables of [`LARGEST_PAIR_TABLE`] and [`LARGEST_KEY_TABLE`] numbers (256 KiB
 //! and 1.5 MiB), and of [`frame_table_len`] for frames, are never too short; a
@@ -84,6 +86,11 @@
 //! bytes that were read, also where these have an empty context in its old
 //! [`Form`].
 //!
+//! Behind a body [`write_header_auth_tag`] writes its authentication record, and
+//! behind that [`write_frames`] writes the frames, whose IVs, contents and tags a
+//! cipher gave. Up to 65,535 frames that were read are written again, from their
+//! [`frame_table`](Frames::frame_table), to the bytes that were read.
+//!
 //! # Refusals
 //!
 //! Whatever is handed in, a function accepts it or answers one [`Refusal`].
@@ -92,8 +99,8 @@
 //! - [`Remedy::Wait`] (2): the message breaks off. Fetch until it has at least
 //!   that many bytes, and ask again; if no more will come, reject it.
 //! - [`Remedy::LendMore`] (22, 23, 28): a table or the output is too short.
-//!   Lend a longer one, and ask again. No body is refused so whose output has
-//!   the length that [`header_body_len`] gave.
+//!   Lend a longer one, and ask again. No body and no frames are refused so
+//!   whose output has the length that [`header_body_len`] or [`frames_len`] gave.
 //! - [`Remedy::Reject`] (all others): no bytes and no room change the answer.
 //!
 //! What is accepted borrows the message, so a message that grows is asked
@@ -153,8 +160,9 @@
 //!
 //! The archive holds x86-64 code for Linux. The crate needs Rust 1.87 or later.
 //! It uses `core`, and with its feature `alloc`, which is on by default, the
-//! crate `alloc` for [`header_body_to_vec`], which is all that the feature adds.
-//! Without default features `core` is all, and no allocator is needed.
+//! crate `alloc` for [`header_body_to_vec`] and [`frames_to_vec`], which are all
+//! that the feature adds. Without default features `core` is all, and no
+//! allocator is needed.
 #![no_std]
 #![deny(missing_docs)]
 
@@ -168,6 +176,7 @@ mod constants;
 mod draft;
 mod finding;
 mod form;
+mod frame_writes;
 mod frames;
 mod host;
 mod only_authenticated;
@@ -189,6 +198,9 @@ pub use constants::*;
 pub use draft::{Draft, Numbers};
 pub use finding::{copy_value, find_bytes, find_part, find_value};
 pub use form::Form;
+#[cfg(feature = "alloc")]
+pub use frame_writes::frames_to_vec;
+pub use frame_writes::{frames_len, write_frames};
 pub use frames::{read_frames, Frame, Frames};
 pub use host::{header_number, header_position, version, write_listing};
 pub use only_authenticated::write_only_authenticated;

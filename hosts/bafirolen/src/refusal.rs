@@ -48,7 +48,7 @@ macro_rules! refusals {
         }
 
         impl Refusal {
-            /// The refusal's number, 1 to 35 where it is listed.
+            /// The refusal's number, 1 to 37 where it is listed.
             #[must_use]
             pub const fn number(&self) -> u32 {
                 match self {
@@ -111,7 +111,7 @@ refusals! {
     16 ProviderIdNotUtf8 "provider ID not UTF-8",
     17 ContentType "content type not 01 or 02",
     18 ReservedBytes "reserved bytes not 0",
-    19 IvLength "IV length not the suite's (writing a body of version 2: not 0)",
+    19 IvLength "IV length not the suite's (writing a body of version 2: not 0; a frame: not 12)",
     20 FrameLength "frame length against content type, or frames with length 0",
     21 OldEmptyContext "the old form of an empty context",
     22 PairTableTooShort "pair table too short",
@@ -119,7 +119,7 @@ refusals! {
     24 IdLength "message ID of another length",
     25 SuiteDataLength "suite data of another length",
     26 TableOrPlace "table not in fours or sixes, or a place outside the text",
-    27 CountOrPartTooLong "more than 65,535 items, or a part above 65,535 bytes",
+    27 CountOrPartTooLong "more than 65,535 items, or a part of a pair or key above 65,535 bytes",
     28 OutputTooShort "output too short",
     29 NotFound "no pair has the key",
     30 TagLength "tag not 16 bytes",
@@ -128,6 +128,8 @@ refusals! {
     33 PairInOldForm "a pair in a body marked as of the old form",
     34 SequenceNumber "sequence number of a frame not the next one",
     35 FinalContentTooLong "content of the final frame longer than the frame length",
+    36 NoFrame "no frame to write",
+    37 RegularContentLength "content of a frame before the last not of the frame length",
 }
 
 impl Refusal {

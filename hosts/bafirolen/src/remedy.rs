@@ -40,13 +40,15 @@ pub enum Remedy {
     /// Tables of [`LARGEST_PAIR_TABLE`](crate::LARGEST_PAIR_TABLE) and
     /// [`LARGEST_KEY_TABLE`](crate::LARGEST_KEY_TABLE) numbers always suffice,
     /// and for frames as many as [`frame_table_len`](crate::frame_table_len)
-    /// says. For a body [`header_body_len`](crate::header_body_len) says exactly
-    /// how long an output is wanted.
+    /// says. For a body [`header_body_len`](crate::header_body_len), and for
+    /// frames [`frames_len`](crate::frames_len), says exactly how long an output
+    /// is wanted.
     LendMore,
     /// All others: the request is refused whatever more is fetched or lent. A
     /// reader's caller rejects the message (4, 15 and 21 depend on what was
-    /// asked for), a writer's caller corrects the fields or the required table
-    /// (31), and one who looked for a key (29) does without: the context is good
-    /// and lacks it.
+    /// asked for), a writer's caller corrects the fields, the frames (36 and 37
+    /// are refused in writing alone, and 35 in reading too) or the required
+    /// table (31), and one who looked for a key (29) does without: the context
+    /// is good and lacks it.
     Reject,
 }

@@ -1,16 +1,17 @@
 //! The functions' lists of refusals under 'Errors' are those that the
 //! comparisons hold each operation to, in the documents' order of tests.
 //! (`copy_value` and `find_bytes` refer to `find_value` for theirs, and the
-//! first adds 28; `header_body_to_vec` refers to `header_body_len`.)
+//! first adds 28; `header_body_to_vec` and `frames_to_vec` refer to the lengths.)
 
 use bafirolen::Refusal;
 use report::{assert_said, LISTED};
 
-const SOURCES: [&str; 9] = [
+const SOURCES: [&str; 10] = [
     include_str!("../src/auth.rs"),
     include_str!("../src/body.rs"),
     include_str!("../src/body_len.rs"),
     include_str!("../src/finding.rs"),
+    include_str!("../src/frame_writes.rs"),
     include_str!("../src/frames.rs"),
     include_str!("../src/host.rs"),
     include_str!("../src/only_authenticated.rs"),
@@ -19,7 +20,7 @@ const SOURCES: [&str; 9] = [
 ];
 
 /// A function, and what its operations in the comparisons begin with.
-const ROWS: [(&str, &str); 13] = [
+const ROWS: [(&str, &str); 15] = [
     ("read_aad_section", "read section"),
     ("read_encrypted_data_keys_section", "read keys"),
     ("read_header_body", "read body"),
@@ -31,6 +32,8 @@ const ROWS: [(&str, &str); 13] = [
     ("write_header_body", "write body"),
     ("header_body_len", "body length"),
     ("write_header_auth_tag", "write auth"),
+    ("write_frames", "write frames"),
+    ("frames_len", "frames length"),
     ("write_listing", "write listing"),
     ("write_only_authenticated", "write only authenticated"),
 ];
@@ -87,6 +90,7 @@ fn some_refer_to_others() {
         ("find_bytes", "find_value", &[][..]),
         ("copy_value", "find_value", &[28][..]),
         ("header_body_to_vec", "header_body_len", &[][..]),
+        ("frames_to_vec", "frames_len", &[][..]),
     ] {
         let list = errors(function);
         let those = format!("Those of [`{other}`]");

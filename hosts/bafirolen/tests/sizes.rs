@@ -2,8 +2,9 @@
 //! just so many, and none that is one shorter.
 
 use bafirolen::{
-    header_body_len, write_aad_section, write_encrypted_data_keys_section, write_header_body,
-    write_only_authenticated, Draft, Form, Numbers, Refusal, FRAMED,
+    frames_len, header_body_len, write_aad_section, write_encrypted_data_keys_section,
+    write_frames, write_header_body, write_only_authenticated, Draft, Form, Numbers, Refusal,
+    FRAMED,
 };
 
 /// Places of the lengths given, one after the other.
@@ -98,5 +99,23 @@ fn of_required_pairs() {
         // Where none is required, no room is needed.
         let written = write_only_authenticated(&section, 0, &text, &[], &mut []);
         assert_eq!(written, Ok(0));
+    }
+}
+
+/// 32 bytes and the frame length for each frame but the last, which takes 40 and
+/// its content.
+#[test]
+fn of_frames() {
+    let text: Vec<u8> = (b'a'..=b'z').cycle().take(600).collect();
+    for (count, frame_length, last) in [(1, 9, 0), (1, 9, 9), (2, 1, 0), (3, 100, 99), (7, 40, 40)]
+    {
+        let mut lengths = [12, frame_length, 16].repeat(count);
+        lengths[3 * count - 2] = last;
+        let places: Vec<u32> = lengths.iter().flat_map(|&length| [3, length]).collect();
+        let length = (count - 1) * (32 + frame_length as usize) + 40 + last as usize;
+        takes(length, |out| {
+            write_frames(frame_length, &text, &places, out)
+        });
+        assert_eq!(frames_len(frame_length, &text, &places), Ok(length));
     }
 }

@@ -75,6 +75,54 @@ pub fn read_frames(message: &[u8], frame_length: u32, table: &mut [u32]) -> u64 
 }
 
 #[inline]
+pub fn write_frames(frame_length: u32, text: &[u8], frames: &[u32], out: &mut [u8]) -> u64 {
+    told(
+        bafirolen::write_frames(frame_length, text, frames, out)
+            .map(|length| length as u64)
+            .map_err(number),
+    )
+}
+
+#[inline]
+pub fn frames_len(frame_length: u32, text: &[u8], frames: &[u32]) -> u64 {
+    told(
+        bafirolen::frames_len(frame_length, text, frames)
+            .map(|length| length as u64)
+            .map_err(number),
+    )
+}
+
+/// Into just as much of the output as the frames take.
+#[inline]
+pub fn measure_and_write_frames(
+    frame_length: u32,
+    text: &[u8],
+    frames: &[u32],
+    out: &mut [u8],
+) -> u64 {
+    told(
+        bafirolen::frames_len(frame_length, text, frames)
+            .and_then(|length| {
+                bafirolen::write_frames(frame_length, text, frames, &mut out[..length])
+            })
+            .map(|length| length as u64)
+            .map_err(number),
+    )
+}
+
+#[inline]
+pub fn refile_frames(message: &[u8], frame_length: u32, table: &mut [u32], out: &mut [u8]) -> u64 {
+    told(
+        bafirolen::read_frames(message, 0, frame_length, table)
+            .and_then(|read| {
+                bafirolen::write_frames(frame_length, message, read.frame_table(), out)
+            })
+            .map(|length| length as u64)
+            .map_err(number),
+    )
+}
+
+#[inline]
 pub fn read_body(message: &[u8], pairs: &mut [u32], keys: &mut [u32]) -> u64 {
     told(
         bafirolen::read_header_body(message, 0, Request::default(), pairs, keys)

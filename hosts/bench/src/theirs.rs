@@ -62,6 +62,28 @@ pub fn read_frames(message: &[u8], frame_length: u32, table: &mut [u32]) -> u64 
 }
 
 #[inline]
+pub fn write_frames(frame_length: u32, text: &[u8], frames: &[u32], out: &mut [u8]) -> u64 {
+    told(reference::write_frames(frame_length, text, frames, out).map_err(number))
+}
+
+#[inline]
+pub fn frames_len(frame_length: u32, text: &[u8], frames: &[u32]) -> u64 {
+    told(reference::frames_len(frame_length, text, frames).map_err(number))
+}
+
+#[inline]
+pub fn refile_frames(message: &[u8], frame_length: u32, table: &mut [u32], out: &mut [u8]) -> u64 {
+    told(
+        reference::read_frames(message, 0, frame_length, table)
+            .and_then(|read| {
+                let frames = &table[..6 * read.frames as usize];
+                reference::write_frames(frame_length, message, frames, out)
+            })
+            .map_err(number),
+    )
+}
+
+#[inline]
 pub fn read_body(message: &[u8], pairs: &mut [u32], keys: &mut [u32]) -> u64 {
     let (which, mode) = (Which::Either, Mode::Tolerant);
     told(

@@ -150,6 +150,15 @@ impl Codec for Both {
         written(writes::write_header_body(draft(lent), out), out)
     }
 
+    fn frames_len(&self, length: u32, text: &[u8], table: &[u32]) -> Written {
+        let answer = lengths::frames_len(length, text, table);
+        row(answer, |length| length as u64)
+    }
+
+    fn write_frames(&self, length: u32, text: &[u8], table: &[u32], out: &mut [u8]) -> Written {
+        written(writes::write_frames(length, text, table, out), out)
+    }
+
     fn write_record(&self, suite: u32, iv: &[u8], tag: &[u8], out: &mut [u8]) -> Written {
         written(writes::write_header_auth_tag(suite, iv, tag, out), out)
     }

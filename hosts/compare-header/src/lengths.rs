@@ -1,8 +1,9 @@
-//! The length of a body before it is written, asked of both, and what it
-//! foretells of the writer.
+//! The length of a body, or of frames, before it is written, asked of both, and
+//! what it foretells of the writer.
 
 use crate::kept::Kept;
 use crate::numbers::{refused, their_numbers, Answer};
+use crate::reads::few;
 use crate::writes::shown;
 use bafirolen::{Draft, Refusal};
 
@@ -34,6 +35,23 @@ pub fn header_body_len(draft: &Draft) -> Answer<usize> {
     answer
 }
 
+/// The same of frames.
+pub fn frames_len(frame_length: u32, text: &[u8], frames: &[u32]) -> Answer<usize> {
+    let (bytes, tables) = (Kept::new([text]), Kept::new([frames]));
+    let answer = bafirolen::frames_len(frame_length, text, frames);
+    bytes.assert_unchanged("bytes of a length");
+    tables.assert_unchanged("tables of a length");
+    let wanted = reference::frames_len(frame_length, text, frames);
+    let wanted = wanted.map(|length| length as usize).map_err(refused);
+    assert!(
+        answer == wanted,
+        "length {answer:?} against {wanted:?}: frames of {frame_length}, {:?} of {:02X?}",
+        few(frames),
+        few(text)
+    );
+    answer
+}
+
 /// What the writer answers to an output of so many bytes: the refusal of the
 /// length; where there is none, 28 exactly if the output is shorter.
 pub fn foretold(length: Answer<usize>, room: usize) -> Answer<usize> {
@@ -44,21 +62,22 @@ pub fn foretold(length: Answer<usize>, room: usize) -> Answer<usize> {
 }
 
 /// The outputs by which what is foretold is tried: a byte less than the length,
-/// just so many, and one more; or, of a refusal, none and plenty.
-pub fn rooms(draft: &Draft, length: Answer<usize>) -> Vec<usize> {
+/// just so many, and one more; or, of a refusal, none and plenty for all that
+/// the tables name.
+pub fn rooms<const N: usize>(tables: [&[u32]; N], length: Answer<usize>) -> Vec<usize> {
     match length {
         Ok(length) => [length - 1, length, length + 1]
             .into_iter()
             .filter(|room| *room <= LONGEST)
             .collect(),
-        Err(_) => vec![0, plenty(draft)],
+        Err(_) => vec![0, plenty(&tables)],
     }
 }
 
-/// Room for all that the tables name, if they name what is there.
-fn plenty(draft: &Draft) -> usize {
-    let tables = [draft.pairs, draft.keys];
+/// Room for all that the tables name, if they name what is there: beside a part
+/// stand at most four bytes.
+fn plenty(tables: &[&[u32]]) -> usize {
     let places = tables.iter().flat_map(|table| table.chunks_exact(2));
-    let parts: u64 = places.map(|place| 2 + u64::from(place[1])).sum();
+    let parts: u64 = places.map(|place| 4 + u64::from(place[1])).sum();
     100 + parts.min(LONGEST as u64) as usize
 }

@@ -4,8 +4,8 @@
 //! and hold the answers, tables and outputs against each other, byte for byte.
 //! What is lent to be read is held against a copy: of up to 4,096 bytes after
 //! each call, of up to 1 MiB once in 17 times. The tests only make requests.
-//! Each body that is to be written is measured first, and written into outputs
-//! that just hold it and just don't.
+//! Each body that is to be written, and each run of frames, is measured first,
+//! and written into outputs that just hold it and just don't.
 #![forbid(unsafe_code)]
 
 pub mod answers;

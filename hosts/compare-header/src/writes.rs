@@ -2,7 +2,7 @@
 
 use crate::guarded::Guarded;
 use crate::kept::Kept;
-use crate::lengths::{foretold, header_body_len, rooms};
+use crate::lengths::{foretold, frames_len, header_body_len, rooms};
 use crate::numbers::{refused, their_numbers, Answer};
 use crate::reads::{few, shown_at};
 use bafirolen::{Draft, Refusal};
@@ -123,20 +123,52 @@ pub fn write_listing(message: &[u8], out: &[u8]) -> (Answer<usize>, Vec<u8>) {
 /// What other outputs are filled with.
 const FILL: u8 = 0xEE;
 
-/// The length is asked first, and then the body is also written into outputs
-/// about that length: each answer is the one foretold.
-pub fn write_header_body(draft: Draft, out: &[u8]) -> (Answer<usize>, Vec<u8>) {
-    let length = header_body_len(&draft);
-    let others = rooms(&draft, length).into_iter();
+/// Writes into the output, and into others about the length, which was asked
+/// before: each answer is the one foretold.
+fn about_length<const N: usize>(
+    tables: [&[u32]; N],
+    length: Answer<usize>,
+    out: &[u8],
+    write: impl Fn(&[u8]) -> (Answer<usize>, Vec<u8>),
+) -> (Answer<usize>, Vec<u8>) {
+    let others = rooms(tables, length).into_iter();
     for room in others.filter(|room| *room != out.len()) {
-        let (answer, out) = write_body(&draft, &vec![FILL; room]);
+        let (answer, out) = write(&vec![FILL; room]);
         assert_eq!(answer, foretold(length, room), "an output of {room} bytes");
         let kept = &out[answer.unwrap_or(0)..];
         assert!(kept.iter().all(|&byte| byte == FILL), "{answer:?}");
     }
-    let answered = write_body(&draft, out);
+    let answered = write(out);
     assert_eq!(answered.0, foretold(length, out.len()));
     answered
+}
+
+/// The length is asked first, and then the body is also written into outputs
+/// about that length.
+pub fn write_header_body(draft: Draft, out: &[u8]) -> (Answer<usize>, Vec<u8>) {
+    let length = header_body_len(&draft);
+    let tables = [draft.pairs, draft.keys];
+    about_length(tables, length, out, |out| write_body(&draft, out))
+}
+
+/// Frames likewise.
+pub fn write_frames(
+    frame_length: u32,
+    text: &[u8],
+    frames: &[u32],
+    out: &[u8],
+) -> (Answer<usize>, Vec<u8>) {
+    let length = frames_len(frame_length, text, frames);
+    let what = || format!("{frame_length}, {:?} of {:02X?}", few(frames), few(text));
+    about_length([frames], length, out, |out| {
+        both(
+            out,
+            ([text], [frames]),
+            what,
+            |out| bafirolen::write_frames(frame_length, text, frames, out),
+            |out| reference::write_frames(frame_length, text, frames, out),
+        )
+    })
 }
 
 fn write_body(draft: &Draft, out: &[u8]) -> (Answer<usize>, Vec<u8>) {

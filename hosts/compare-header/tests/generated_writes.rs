@@ -10,6 +10,7 @@ use compare_header::{compared, Coverage};
 use generator::auth_cases::auth_write_case;
 use generator::body_cases::body_case;
 use generator::body_write_cases::body_write_case;
+use generator::frame_write_cases::frame_write_case;
 use generator::only_cases::only_case;
 use generator::write_cases::{write_keys_case, write_section_case};
 use generator::Expected;
@@ -73,6 +74,22 @@ fn bodies() {
     coverage.print();
     coverage.assert_complete(["write body"]);
     compared(count, "writes of bodies");
+}
+
+#[test]
+fn runs_of_frames() {
+    let mut coverage = Coverage::default();
+    let mut count = 0;
+    for seed in seeds(600_000) {
+        let case = frame_write_case(seed);
+        let answer = writes::write_frames(case.frame_length, &case.text, &case.table, &case.out);
+        coverage.count("write frames", number(&answer.0));
+        image_is(seed, &answer, case.expected, &case.image);
+        count += 1;
+    }
+    coverage.print();
+    coverage.assert_complete(["write frames"]);
+    compared(count, "writes of frames");
 }
 
 #[test]

@@ -6,6 +6,7 @@ use compare_header::compared;
 use compare_header::scale::seeds;
 use generator::body_write_cases::body_write_case;
 use generator::fields::Fields;
+use generator::frame_write_cases::frame_write_case;
 use generator::only_cases::only_case;
 use generator::tables::Lent;
 use generator::write_cases::write_section_case;
@@ -125,6 +126,41 @@ fn bodies() {
     }
     assert!(marked > 0, "no unknown mark was written");
     compared(count, "records of bodies measured and written");
+}
+
+#[test]
+fn frames() {
+    let mut count = 0;
+    for seed in seeds(50_000) {
+        let case = frame_write_case(seed);
+        let (length, text, table) = (case.frame_length, &case.text, &case.table);
+        let (mut ours, mut theirs) = (case.out.clone(), case.out.clone());
+        // SAFETY: pointers and lengths are those of vectors, which are only read
+        // but for the output, which is apart from the others.
+        let (measured, answer) = unsafe {
+            let (bytes, numbers) = (text.as_ptr(), table.as_ptr());
+            let (out, out_len) = (ours.as_mut_ptr(), ours.len());
+            (
+                bafirolen_frames_len(length, bytes, text.len(), numbers, table.len()),
+                bafirolen_write_frames(
+                    length,
+                    bytes,
+                    text.len(),
+                    numbers,
+                    table.len(),
+                    out,
+                    out_len,
+                ),
+            )
+        };
+        let wanted = reference::frames_len(length, text, table);
+        assert_eq!(measured, written(wanted), "seed {seed}");
+        let wanted = reference::write_frames(length, text, table, &mut theirs);
+        assert_eq!(answer, written(wanted), "seed {seed}");
+        assert!(ours == theirs, "seed {seed}");
+        count += 2;
+    }
+    compared(count, "records of frames measured and written");
 }
 
 /// A shortage has a position here too.

@@ -4,10 +4,9 @@
 use compare_header::both::{listing, Both};
 use compare_header::{compared, reads};
 use generator::image::OLD_MARKS;
-use generator::rows::{body_lengths, forms, frame_sizes, frames, header_writes, headers};
-use generator::rows::{
-    listings, many_frames, only_authenticated, records, section_writes, sections, sizes,
-};
+use generator::rows::{body_lengths, forms, frame_sizes, frame_write_sizes, frame_writes, frames};
+use generator::rows::{header_writes, headers, listings, many_frames, only_authenticated, records};
+use generator::rows::{section_writes, sections, sizes};
 
 /// None of the rows that a table had is lost.
 fn held(rows: u64, wanted: u64, what: &str) {
@@ -96,6 +95,21 @@ fn frames_of_four_gibibytes() {
         8 + 1 + 6 + 2 + 1 + 5 + 4 + 1,
         "rows of frames of 4 GiB",
     );
+}
+
+#[test]
+fn frames_written() {
+    let rows =
+        frame_writes::images(&Both) + frame_writes::refusals(&Both) + frame_writes::counts(&Both);
+    let wanted = 6 * (12 + 1) + 3 * 47 + (6 + 13 * 3);
+    held(rows, wanted, "rows of frames written");
+}
+
+#[test]
+fn frames_written_from_four_gibibytes() {
+    let rows = frame_write_sizes::of_four_gibibytes(&Both);
+    let wanted = frame_write_sizes::ANSWERS;
+    held(rows, wanted, "rows of frames written from 4 GiB");
 }
 
 #[test]

@@ -124,6 +124,35 @@ fn with_a_later_fault() {
     answers.assert_are("writes with a later fault", &[(26, 8 * requests)]);
 }
 
+/// Each place of two frames in turn, with room and without, also where another
+/// part has a later fault; and in an empty text.
+#[test]
+fn of_frames() {
+    let text = vec![b'a'; TEXT as usize];
+    let write = |text: &[u8], frames: &[u32], room: usize| {
+        writes::write_frames(100, text, frames, &vec![0x11; room]).0
+    };
+    let mut answers = Answers::default();
+    for (start, length) in WRAPPING {
+        for place in 0..6 {
+            let mut frames = [0, 12, 200, 100, 284, 16, 288, 12, 7, 3, 0, 16];
+            answers.met(&write(&text, &frames, 175), 0);
+            answers.met(&write(&text, &frames, 174), 28);
+            frames[2 * place..2 * place + 2].copy_from_slice(&[start, length]);
+            for room in [0, 175, 2_000] {
+                answers.met(&write(&text, &frames, room), 26);
+            }
+            // A part before or behind it that is a byte too short.
+            frames[2 * ((place + 1) % 6) + 1] -= 1;
+            answers.met(&write(&text, &frames, 175), 26);
+        }
+        answers.met(&write(&[], &[0, 0, start, length, 0, 0], 175), 26);
+    }
+    let each = WRAPPING.len() as u64;
+    let wanted = [(0, 6 * each), (26, 25 * each), (28, 6 * each)];
+    answers.assert_are("frames' places whose sum wraps", &wanted);
+}
+
 /// What is only authenticated, of a section with one pair whose key is the
 /// first letter: each of three required places in turn, in a text of `TEXT`
 /// letters and in an empty one, with room and without.

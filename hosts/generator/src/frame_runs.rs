@@ -57,7 +57,7 @@ pub fn frame_length(random: &mut Random) -> u32 {
 }
 
 /// How many regular frames of a length there are.
-fn regular(random: &mut Random, frame_length: u32) -> usize {
+pub fn regular(random: &mut Random, frame_length: u32) -> usize {
     match frame_length {
         0..=16 if random.one_in(40) => random.between(250, 300) as usize,
         0..=16 => random.length(30),

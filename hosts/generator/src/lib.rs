@@ -15,6 +15,7 @@ pub mod fields;
 pub mod frame_cases;
 pub mod frame_faults;
 pub mod frame_runs;
+pub mod frame_write_cases;
 pub mod frames;
 pub mod headers;
 pub mod image;

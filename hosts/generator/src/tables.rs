@@ -37,6 +37,17 @@ pub fn lend(random: &mut Random, pairs: &[Pair], keys: &[Key]) -> Lent {
     }
 }
 
+/// Parts one behind the other, and a table with the place of each.
+pub fn places_behind(parts: &[&[u8]]) -> (Vec<u8>, Vec<u32>) {
+    let mut table = Vec::with_capacity(2 * parts.len());
+    let mut at = 0;
+    for part in parts {
+        table.extend([at, part.len() as u32]);
+        at += part.len() as u32;
+    }
+    (parts.concat(), table)
+}
+
 /// Lays out parts, in order or from the back: the text, and a table with the
 /// place of each.
 pub fn lend_parts(random: &mut Random, parts: &[&[u8]]) -> (Vec<u8>, Vec<u32>) {

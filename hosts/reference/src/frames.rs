@@ -6,7 +6,7 @@ use crate::suites::Suite;
 use crate::tables::{put_place, NUMBERS_A_FRAME};
 
 /// FF FF FF FF: a final frame, whose own number stands behind it.
-const FINAL: u32 = u32::MAX;
+pub(crate) const FINAL: u32 = u32::MAX;
 /// The bytes of a number, which a regular frame begins with.
 const NUMBER: u64 = 4;
 

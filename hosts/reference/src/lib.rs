@@ -1,5 +1,5 @@
-//! A separate codec of AWS Encryption SDK message headers, and a reader of the
-//! frames behind them.
+//! A separate codec of AWS Encryption SDK message headers, and of the frames
+//! behind them.
 //!
 //! Readers hand out places in the lent message and fill lent tables of
 //! 32-bit numbers; writers fill a lent output from its first byte. An
@@ -18,6 +18,7 @@ pub mod body_write;
 pub mod context;
 pub mod context_write;
 pub mod frames;
+pub mod frames_write;
 pub mod keys;
 pub mod leaves;
 pub mod listing;
@@ -34,6 +35,7 @@ pub use body_write::{header_body_len, write_header_body, Numbers};
 pub use context::{find, find_part, read_aad_section, Mode, PairsRead};
 pub use context_write::write_aad_section;
 pub use frames::{read_frames, FramesRead};
+pub use frames_write::{frames_len, write_frames};
 pub use keys::{read_encrypted_data_keys_section, write_encrypted_data_keys_section, KeysRead};
 pub use leaves::{
     compare_parts, equal_parts, read_bytes, read_entry, read_u16, read_u32, read_u8, write_bytes,

@@ -61,6 +61,8 @@ pub const PAST_SECTION: u32 = 32;
 pub const PAIR_IN_OLD_FORM: u32 = 33;
 pub const SEQUENCE_NUMBER: u32 = 34;
 pub const FINAL_CONTENT: u32 = 35;
+pub const NO_FRAME: u32 = 36;
+pub const REGULAR_CONTENT: u32 = 37;
 
 /// The greatest message length and start any reader takes. Below it every
 /// position is far from overflow, and every place fits a table entry.

@@ -8,7 +8,8 @@ pub const NUMBERS_A_PAIR: usize = 4;
 pub const NUMBERS_A_KEY: usize = 6;
 pub const NUMBERS_A_FRAME: usize = 6;
 
-/// The greatest count a section can store.
+/// The greatest count a section can store; and the most frames that are
+/// written.
 pub const COUNT_MAX: usize = u16::MAX as usize;
 
 /// Puts a part's place at the front of a table's rest. A reader's places lie

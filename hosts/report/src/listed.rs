@@ -4,9 +4,9 @@ use std::collections::BTreeSet;
 
 /// The refusals that document 01, or the change request that adds it, lists
 /// for each operation, in its order of tests; each stands where it comes first,
-/// such as 2 and 32, which are tested of each part in turn, and 34, which is
-/// tested of each frame.
-pub const LISTED: [(&str, &[u32]); 19] = [
+/// such as 2 and 32, which are tested of each part in turn, and 34 in reading,
+/// 19 and 30 in writing, which are tested of each frame.
+pub const LISTED: [(&str, &[u32]); 21] = [
     (
         "read section tolerant",
         &[1, 2, 32, 8, 9, 10, 11, 12, 14, 22],
@@ -64,12 +64,16 @@ pub const LISTED: [(&str, &[u32]); 19] = [
     ("write body", WRITE_BODY),
     ("body length", but_28(WRITE_BODY)),
     ("write auth", &[6, 19, 30, 28]),
+    ("write frames", WRITE_FRAMES),
+    ("frames length", but_28(WRITE_FRAMES)),
     ("write listing", &[28]),
 ];
 
 const WRITE_BODY: &[u32] = &[
     3, 5, 6, 7, 24, 26, 27, 10, 11, 12, 13, 33, 16, 17, 19, 25, 20, 28,
 ];
+
+const WRITE_FRAMES: &[u32] = &[20, 26, 36, 27, 19, 30, 37, 35, 28];
 
 /// A writer's list without its last line, the output that is too short.
 const fn but_28(list: &'static [u32]) -> &'static [u32] {

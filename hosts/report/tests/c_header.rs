@@ -18,11 +18,11 @@ fn the_numbers_of_refusals() {
                 .expect("a number")
         })
         .collect();
-    assert!(numbers.into_iter().eq(0..=35));
+    assert!(numbers.into_iter().eq(0..=37));
 }
 
 /// Each function that refuses, and the operations that its list is of.
-const FUNCTIONS: [(&str, &[&str]); 15] = [
+const FUNCTIONS: [(&str, &[&str]); 17] = [
     ("bafirolen_header_number", &["read body tolerant"]),
     ("bafirolen_read_header_body", &BODY_READERS),
     (
@@ -42,6 +42,8 @@ const FUNCTIONS: [(&str, &[&str]); 15] = [
     ("bafirolen_write_header_auth_tag", &["write auth"]),
     ("bafirolen_write_header_body", &["write body"]),
     ("bafirolen_header_body_len", &["body length"]),
+    ("bafirolen_write_frames", &["write frames"]),
+    ("bafirolen_frames_len", &["frames length"]),
     (
         "bafirolen_write_only_authenticated",
         &["write only authenticated"],

@@ -7,7 +7,7 @@ use std::collections::BTreeSet;
 const README: &str = include_str!("../../../README.md");
 
 /// A column of the table, and the operations that it is of.
-const COLUMNS: [(&str, &[&str]); 13] = [
+const COLUMNS: [(&str, &[&str]); 15] = [
     ("context", &["read section tolerant", "read section strict"]),
     ("keys", &["read keys"]),
     ("body", &BODY_READERS),
@@ -20,6 +20,8 @@ const COLUMNS: [(&str, &[&str]); 13] = [
     ("write body", &["write body"]),
     ("body length", &["body length"]),
     ("write record", &["write auth"]),
+    ("write frames", &["write frames"]),
+    ("frames length", &["frames length"]),
     ("listing", &["write listing"]),
 ];
 
@@ -55,7 +57,7 @@ fn the_table_of_refusals() {
         .map(cells)
         .collect();
     let numbers: Vec<u32> = rows.iter().map(|row| row[0].parse().unwrap()).collect();
-    assert!(numbers.iter().copied().eq(1..=35));
+    assert!(numbers.iter().copied().eq(1..=37));
     for (at, (_, operations)) in COLUMNS.iter().enumerate() {
         for operation in *operations {
             let listed = LISTED.iter().find(|(name, _)| name == operation);

@@ -3,7 +3,8 @@
 //! has no allocator, so that it links only without the feature `alloc`.
 #![no_std]
 
-use bafirolen::{header_body_len, read_header_body, write_header_body, Draft, Refusal, Request};
+use bafirolen::{frames_len, header_body_len, read_header_body, write_frames, write_header_body};
+use bafirolen::{Draft, Refusal, Request};
 
 /// How many pairs the header at the message's front has.
 pub fn count_pairs(message: &[u8]) -> Result<usize, Refusal> {
@@ -18,6 +19,19 @@ pub fn write_front<'r>(draft: &Draft<'_>, room: &'r mut [u8]) -> Result<&'r [u8]
     let length = header_body_len(draft)?;
     let out = room.get_mut(..length).ok_or(Refusal::OutputTooShort)?;
     write_header_body(draft, out)?;
+    Ok(out)
+}
+
+/// Writes frames to the front of a room likewise.
+pub fn write_frames_front<'r>(
+    frame_length: u32,
+    text: &[u8],
+    frames: &[u32],
+    room: &'r mut [u8],
+) -> Result<&'r [u8], Refusal> {
+    let length = frames_len(frame_length, text, frames)?;
+    let out = room.get_mut(..length).ok_or(Refusal::OutputTooShort)?;
+    write_frames(frame_length, text, frames, out)?;
     Ok(out)
 }
 

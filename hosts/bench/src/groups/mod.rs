@@ -3,6 +3,7 @@
 mod bodies;
 mod context;
 mod frames;
+mod frames_written;
 mod keys;
 mod leaves;
 mod lengths;
@@ -44,5 +45,10 @@ pub const GROUPS: &[Group] = &[
         "frames",
         "frames read, by their number and length; takes up to 4.2 GB",
         frames::rows,
+    ),
+    (
+        "frames_written",
+        "frames written, and their length, by their number and length; takes up to 600 MB",
+        frames_written::rows,
     ),
 ];

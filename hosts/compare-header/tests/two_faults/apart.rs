@@ -7,6 +7,7 @@ const CUT: &str = "what the second looks at is in the bytes that are wanted";
 const LENGTH: &str = "how much the second wants is in the bytes that are wanted";
 
 const EMPTY: &str = "a section of length 2 has no pairs to end in";
+const NO_FRAME: &str = "there is no frame to have another fault";
 const ENDS: &str = "a section that ends in its pairs doesn't end behind them";
 
 /// Neighbours that only what they mean keeps apart.
@@ -29,6 +30,12 @@ pub const NAMED: &[(&str, &str, &str)] = &[
     ("27 pair count", "27 pair part", "one test"),
     ("27 key count", "27 key part", "one test"),
     ("31 required in twos", "31 required place", "one test"),
+    ("26 frames in sixes", "26 frame place", "one test"),
+    (
+        "26 frame place",
+        "36 no frame",
+        "a place is one of a frame's",
+    ),
 ];
 
 /// The same of faults that others stand between.
@@ -81,6 +88,7 @@ pub fn apart(first: &str, second: &str) -> Option<&'static str> {
         (2, _) => Some(CUT),
         (8 | 21, 32) if in_a_pair(second) => Some(EMPTY),
         (32, 14) => Some(ENDS),
+        (36, _) => Some(NO_FRAME),
         _ => NAMED
             .iter()
             .chain(FARTHER)

@@ -2,7 +2,8 @@
 
 use super::apart::apart;
 use compare_header::{compared, Coverage};
-use generator::faults::{Draft, FrameDraft, ReadDraft, RecordDraft, WriteDraft};
+use generator::faults::{Draft, FrameDraft, FrameWriteDraft};
+use generator::faults::{ReadDraft, RecordDraft, WriteDraft};
 use std::collections::BTreeSet;
 
 /// A fault: its name, which begins with the refusal's number, and how it is
@@ -36,6 +37,14 @@ pub fn record(name: &str, plant: impl Fn(&mut RecordDraft) + 'static) -> Fault<R
 
 /// A fault of frames, or of what their reader is lent.
 pub fn frame(name: &str, plant: impl Fn(&mut FrameDraft) + 'static) -> Fault<FrameDraft> {
+    fault(name, plant)
+}
+
+/// A fault of what the writer of frames is lent.
+pub fn frame_write(
+    name: &str,
+    plant: impl Fn(&mut FrameWriteDraft) + 'static,
+) -> Fault<FrameWriteDraft> {
     fault(name, plant)
 }
 

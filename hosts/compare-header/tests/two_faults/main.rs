@@ -12,6 +12,7 @@
 mod apart;
 mod bodies;
 mod every_pair;
+mod frame_writes;
 mod frames;
 mod reads;
 mod sections;
@@ -25,6 +26,7 @@ fn operations() -> Vec<Names> {
     all.extend(bodies::lists());
     all.push(frames::frames().names());
     all.extend(writes::lists());
+    all.extend(frame_writes::lists());
     all
 }
 

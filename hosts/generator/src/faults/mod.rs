@@ -6,11 +6,13 @@
 //! fault alone is the one with both in which the first is mended. Two that can
 //! hold together are planted so that their order doesn't matter.
 
+mod frame_writes;
 mod frames;
 mod reading;
 mod record;
 mod writing;
 
+pub use frame_writes::FrameWriteDraft;
 pub use frames::FrameDraft;
 pub use reading::{Area, ReadDraft, REQUIRED_TEXT};
 pub use record::RecordDraft;

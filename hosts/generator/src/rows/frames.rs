@@ -7,15 +7,15 @@ const IV: &str = "A0 A1 A2 A3 A4 A5 A6 A7 A8 A9 AA AB";
 const TAG: &str = "B0 B1 B2 B3 B4 B5 B6 B7 B8 B9 BA BB BC BD BE BF";
 
 /// Bytes from hexadecimal digits, in which `IV` and `TAG` stand for their own.
-fn bytes(text: &str) -> Vec<u8> {
+pub(super) fn bytes(text: &str) -> Vec<u8> {
     hex(&text.replace("IV", IV).replace("TAG", TAG))
 }
 
 /// Two regular frames of 4 bytes and a final one of 2: 36, 36 and 42 bytes.
-const THREE: &str = "00 00 00 01 IV 61 62 63 64 TAG 00 00 00 02 IV 65 66 67 68 TAG \
+pub(super) const THREE: &str = "00 00 00 01 IV 61 62 63 64 TAG 00 00 00 02 IV 65 66 67 68 TAG \
                      FF FF FF FF 00 00 00 03 IV 00 00 00 02 69 6A TAG";
-const LENGTH: u32 = 4;
-const THREE_TABLE: [u32; 18] = [
+pub(super) const LENGTH: u32 = 4;
+pub(super) const THREE_TABLE: [u32; 18] = [
     4, 12, 16, 4, 20, 16, //
     40, 12, 52, 4, 56, 16, //
     80, 12, 96, 2, 98, 16,

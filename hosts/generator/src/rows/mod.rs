@@ -8,6 +8,8 @@
 pub mod body_lengths;
 pub mod forms;
 pub mod frame_sizes;
+pub mod frame_write_sizes;
+pub mod frame_writes;
 pub mod frames;
 pub mod header_writes;
 pub mod headers;
@@ -103,6 +105,9 @@ pub trait Codec {
     /// What the body takes, by what a writer is lent beside the output.
     fn body_len(&self, lent: Lent) -> Written;
     fn write_body(&self, lent: Lent, out: &mut [u8]) -> Written;
+    /// What frames of a length take when they are written.
+    fn frames_len(&self, length: u32, text: &[u8], table: &[u32]) -> Written;
+    fn write_frames(&self, length: u32, text: &[u8], table: &[u32], out: &mut [u8]) -> Written;
     fn write_record(&self, suite: u32, iv: &[u8], tag: &[u8], out: &mut [u8]) -> Written;
     fn write_only_authenticated(
         &self,

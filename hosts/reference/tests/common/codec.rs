@@ -123,6 +123,14 @@ impl Codec for Reference {
         .map_err(refusal)
     }
 
+    fn frames_len(&self, length: u32, text: &[u8], table: &[u32]) -> Written {
+        frames_len(length, text, table).map_err(refusal)
+    }
+
+    fn write_frames(&self, length: u32, text: &[u8], table: &[u32], out: &mut [u8]) -> Written {
+        write_frames(length, text, table, out).map_err(refusal)
+    }
+
     fn write_record(&self, suite: u32, iv: &[u8], tag: &[u8], out: &mut [u8]) -> Written {
         write_header_auth_tag(suite, iv, tag, out).map_err(refusal)
     }

@@ -94,6 +94,40 @@ pub fn write_keys(text: &[u8], table: &[u32]) -> Result<Vec<u8>, No> {
     Ok(out)
 }
 
+/// Each frame's parts are looked at twice, first for their IV and tag.
+pub fn write_frames(length: u32, text: &[u8], table: &[u32]) -> Result<Vec<u8>, No> {
+    need(length > 0, 20)?;
+    let parts = places(text, table, 6, 26)?;
+    need(!parts.is_empty(), 36)?;
+    need(parts.len() / 3 <= 65_535, 27)?;
+    for frame in parts.chunks(3) {
+        need(frame[0].len() == 12, 19)?;
+        need(frame[2].len() == 16, 30)?;
+    }
+    let (last, before) = parts
+        .rchunks(3)
+        .next()
+        .zip(parts.len().checked_sub(3))
+        .unwrap();
+    for frame in parts[..before].chunks(3) {
+        need(frame[1].len() == length as usize, 37)?;
+    }
+    need(last[1].len() <= length as usize, 35)?;
+    let mut out = Vec::new();
+    for (frame, number) in parts.chunks(3).zip(1u32..) {
+        let content = &text[frame[1].clone()];
+        let stored = (content.len() as u32).to_be_bytes();
+        let is_last = 3 * number as usize == parts.len();
+        out.extend(is_last.then_some([0xFF; 4]).into_iter().flatten());
+        out.extend(number.to_be_bytes());
+        out.extend(&text[frame[0].clone()]);
+        out.extend(is_last.then_some(stored).into_iter().flatten());
+        out.extend(content);
+        out.extend(&text[frame[2].clone()]);
+    }
+    Ok(out)
+}
+
 /// `numbers` as in [`super::plain::Body`].
 pub fn write_body(
     numbers: [u32; 7],

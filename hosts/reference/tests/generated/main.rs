@@ -22,6 +22,7 @@ fn every_operation_on_generated_requests() {
         + writes::keys(&mut coverage)
         + writes::bodies(&mut coverage)
         + writes::auth(&mut coverage)
+        + writes::frames(&mut coverage)
         + writes::only_authenticated(&mut coverage)
         + writes::listings(&mut coverage);
     coverage.print();

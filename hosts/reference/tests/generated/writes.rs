@@ -7,6 +7,7 @@ use crate::reads::{as_expected, number};
 use generator::auth_cases::auth_write_case;
 use generator::body_cases::body_case;
 use generator::body_write_cases::body_write_case;
+use generator::frame_write_cases::frame_write_case;
 use generator::only_cases::only_case;
 use generator::write_cases::{write_keys_case, write_section_case, WriteCase};
 use generator::Expected;
@@ -111,6 +112,33 @@ pub fn bodies(coverage: &mut Coverage) -> u64 {
         assert_ne!(case.expected, Expected::Open);
         if answer.is_ok() {
             assert_eq!(out[..case.image.len()], case.image, "seed {seed}");
+        }
+        output_is(seed, answer, (&case.out, &out), plain);
+    }
+    2 * SEEDS
+}
+
+/// As of bodies: each is written, and its length asked before.
+pub fn frames(coverage: &mut Coverage) -> u64 {
+    const SEEDS: u64 = 200_000;
+    for seed in 0..SEEDS {
+        let case = frame_write_case(seed);
+        let (frame_length, text, table) = (case.frame_length, &case.text, &case.table);
+        let plain = plain::write_frames(frame_length, text, table);
+
+        let length = frames_len(frame_length, text, table);
+        coverage.count("frames length", number(&length));
+        let taken = plain.as_ref().map(|image| image.len() as u64);
+        let taken = taken.map_err(|no| *no);
+        assert_eq!(length.map_err(refusal), taken, "seed {seed}");
+
+        let mut out = case.out.clone();
+        let answer = write_frames(frame_length, text, table, &mut out);
+        coverage.count("write frames", number(&answer));
+        as_expected(seed, &answer, case.expected);
+        assert_ne!(case.expected, Expected::Open);
+        if answer.is_ok() {
+            assert!(out[..case.image.len()] == case.image, "seed {seed}");
         }
         output_is(seed, answer, (&case.out, &out), plain);
     }
