@@ -6,10 +6,10 @@ use Prim.Native.Nat.{ℕ, _+_, _-_, _≤_}
 use native.Mathlib.Omega.{arith}
 use native.Mathlib.Nat.{add-assoc}
 use lib.Dec.{eqb}
-use lib.ListN.{length, take, drop, length-append, length-drop}
+use lib.ListN.{length, drop, length-append, length-drop}
 use lib.Seq.{drop-drop, take-append-seam, drop-append-seam}
 use Rattle.format.specs.Serialize.{Part, write-uint16, write-uint32, write-short-length-seq, images}
-use Rattle.format.specs.Fields.{Form, today, old, Pair, EncryptedDataKey, HeaderBody, pair-places, key-places}
+use Rattle.format.specs.Fields.{Form, today, old, Pair, EncryptedDataKey, pair-places, key-places}
 use Rattle.format.specs.Context.{linear-length, write-aad-pair, write-aad-pairs, write-aad, write-expanded-aad-section, write-aad-section, section-in}
 use Rattle.format.specs.Keys.{write-encrypted-data-key, write-encrypted-data-keys, write-encrypted-data-keys-section}
 use Rattle.format.specs.Body.{Request, write-opening-of, write-closing-of, image}

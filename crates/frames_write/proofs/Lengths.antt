@@ -10,10 +10,9 @@ use mathlib.Core.Option.{none}
 use mathlib.Core.List.{List, [], _∷_, _++_, map}
 use lib.Dec.{leb, eqb}
 use lib.ListN.{length, getD}
-use borrow.Author.Tests.{eqb-true, leb-true}
 use Rattle.format.specs.Serialize.{every}
 use Rattle.format.specs.Frames.{Frame, write-frames}
-use Rattle.format.specs.Checks.{Check, check, first, each, sealed-checks, frame-checks, content-checks, content-length, frames-checks}
+use Rattle.format.specs.Checks.{Check, check, first, each, frame-checks, content-length, frames-checks}
 use Rattle.format.specs.Lent.{items, here, part-in, places, in-text, frame-in, frames-in, table-checks, size-of, writing-frames}
 use Rattle.format.specs.FramesWritten.{last-of, FramesToWrite}
 use Rattle.format.proofs.Firsts.{holds}
@@ -22,7 +21,6 @@ use Rattle.format.proofs.FrameLaws.{frames-length}
 use Rattle.format.proofs.FramesWritten.{some-frames, taken}
 use Rattle.wire.specs.Stored.{stored}
 use Rattle.checks.specs.Answers.{checked, write-answer-of}
-use Rattle.checks.specs.Table.{Within}
 use Rattle.checks.specs.declared.Checked.{Checked}
 use Rattle.checks.specs.declared.Checked.the-variants.{Passes}
 use Rattle.checks.specs.declared.WriteAnswer.{WriteAnswer}

@@ -4,7 +4,7 @@ use wire::writing::write;
 use wire::writing::write_uint32;
 ghost use Prim.Native.Nat.{_+_, _≤_, _<_};
 ghost use mathlib.Core.Path.{_≡_};
-ghost use lib.ListN.{length, getD};
+ghost use lib.ListN.{length};
 ghost use Rattle.format.specs.Frames.{write-regular-frame, write-final-frame, write-frames};
 ghost use Rattle.format.specs.Lent.{part-in, frame-in, frames-in};
 ghost use Rattle.wire.specs.Stored.{stored};

@@ -1,13 +1,13 @@
 -- The frame writer's promises: the definitions' theorems, by both contracts. Assumes nothing.
 use Prim.Native.Nat.{ℕ, _+_, _*_, _-_, _≤_, _<_}
 use mathlib.Core.Path.{_≡_, refl, sym, ap, ap₂, _∙_}
-use mathlib.Core.List.{List, map}
+use mathlib.Core.List.{List}
 use lib.ListN.{length, take, drop}
 use lib.Seq.{take-append-seam}
 use Rattle.format.specs.Read.{Answer, accepted, operation}
 use Rattle.format.specs.Serialize.{Bytes}
-use Rattle.format.specs.Frames.{FrameAt, frame-of, write-frames, read-frames-into}
-use Rattle.format.specs.Lent.{bytes-at, filled, frame-numbers, table-after, frames-in, Writing, written, output-after, writing-frames}
+use Rattle.format.specs.Frames.{FrameAt, write-frames, read-frames-into}
+use Rattle.format.specs.Lent.{bytes-at, filled, frame-numbers, table-after, Writing, written, output-after, writing-frames}
 use Rattle.format.specs.FramesWritten.{frames-again}
 use Rattle.format.proofs.Writers.{writer-law}
 use Rattle.format.proofs.FramesWritten.{taken, frames-written}

@@ -61,6 +61,44 @@ pub fn foretold(length: Answer<usize>, room: usize) -> Answer<usize> {
     }
 }
 
+/// How many outputs were tried, how many of them were too short, and how many
+/// by a length that is refused.
+#[derive(Default)]
+pub struct Tried {
+    pub count: u64,
+    pub short: u64,
+    pub refused: u64,
+}
+
+impl Tried {
+    /// Ours with outputs of every length up to a few bytes more than the
+    /// image's: each answer is foretold, and what isn't written keeps.
+    pub fn every_output(
+        &mut self,
+        seed: u64,
+        (length, image): (Answer<usize>, &[u8]),
+        write: impl Fn(&mut [u8]) -> Result<usize, Refusal>,
+    ) {
+        for room in 0..(image.len() + 4).min(1_000) {
+            let mut out = vec![seed as u8; room];
+            let answer = write(&mut out);
+            assert_eq!(answer, foretold(length, room), "seed {seed}, {room}");
+            let front = answer.unwrap_or(0);
+            assert_eq!(out[..front], image[..front], "seed {seed}, {room}");
+            let rest = &out[front..];
+            assert!(rest.iter().all(|&byte| byte == seed as u8), "seed {seed}");
+            self.short += u64::from(answer == Err(Refusal::OutputTooShort));
+            self.refused += u64::from(length.is_err());
+            self.count += 1;
+        }
+    }
+
+    pub fn both_came_about(&self) -> u64 {
+        assert!(self.short > 0 && self.refused > 0);
+        self.count
+    }
+}
+
 /// The outputs by which what is foretold is tried: a byte less than the length,
 /// just so many, and one more; or, of a refusal, none and plenty for all that
 /// the tables name.

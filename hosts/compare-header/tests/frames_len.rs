@@ -1,9 +1,8 @@
 //! The length of frames before they are written. (All frames that another test
 //! writes are measured as well, and tried with outputs about their length.)
 
-use bafirolen::Refusal;
 use compare_header::expected::as_expected;
-use compare_header::lengths::{foretold, frames_len};
+use compare_header::lengths::{frames_len, Tried};
 use compare_header::numbers::number;
 use compare_header::scale::seeds;
 use compare_header::{compared, Coverage};
@@ -39,24 +38,17 @@ fn of_generated_requests() {
 /// what isn't written keeps.
 #[test]
 fn whatever_the_output() {
-    let (mut count, mut short, mut refused) = (0, 0, 0);
+    let mut tried = Tried::default();
     for seed in seeds(3_000) {
         let case = frame_write_case(seed ^ 0x1E46_0000);
         let (frame_length, text, table) = (case.frame_length, &case.text, &case.table);
         let length = frames_len(frame_length, text, table);
-        for room in 0..(case.image.len() + 4).min(1_000) {
-            let mut out = vec![seed as u8; room];
-            let answer = bafirolen::write_frames(frame_length, text, table, &mut out);
-            assert_eq!(answer, foretold(length, room), "seed {seed}, {room}");
-            let front = answer.unwrap_or(0);
-            assert!(out[..front] == case.image[..front], "seed {seed}, {room}");
-            let rest = &out[front..];
-            assert!(rest.iter().all(|&byte| byte == seed as u8), "seed {seed}");
-            short += u64::from(answer == Err(Refusal::OutputTooShort));
-            refused += u64::from(length.is_err());
-            count += 1;
-        }
+        tried.every_output(seed, (length, &case.image), |out| {
+            bafirolen::write_frames(frame_length, text, table, out)
+        });
     }
-    assert!(short > 0 && refused > 0);
-    compared(count, "writes of measured frames into every output");
+    compared(
+        tried.both_came_about(),
+        "writes of measured frames into every output",
+    );
 }

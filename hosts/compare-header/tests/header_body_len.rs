@@ -1,10 +1,10 @@
 //! The length of a body before it is written. (Every body that another test
 //! writes is measured as well, and tried with outputs about its length.)
 
-use bafirolen::{Draft, Form, Refusal};
+use bafirolen::{Draft, Form};
 use compare_header::answers::Answers;
 use compare_header::expected::as_expected;
-use compare_header::lengths::{foretold, header_body_len};
+use compare_header::lengths::{header_body_len, Tried};
 use compare_header::numbers::{number, numbers};
 use compare_header::scale::seeds;
 use compare_header::{compared, Coverage};
@@ -51,26 +51,19 @@ fn of_generated_requests() {
 /// isn't written keeps.
 #[test]
 fn whatever_the_output() {
-    let (mut count, mut short, mut refused) = (0, 0, 0);
+    let mut tried = Tried::default();
     for seed in seeds(3_000) {
         let case = body_write_case(seed ^ 0x1E46_0000);
         let draft = draft(&case);
         let length = header_body_len(&draft);
-        for room in 0..(case.image.len() + 4).min(1_000) {
-            let mut out = vec![seed as u8; room];
-            let answer = bafirolen::write_header_body(&draft, &mut out);
-            assert_eq!(answer, foretold(length, room), "seed {seed}, {room}");
-            let front = answer.unwrap_or(0);
-            assert_eq!(out[..front], case.image[..front], "seed {seed}, {room}");
-            let rest = &out[front..];
-            assert!(rest.iter().all(|&byte| byte == seed as u8), "seed {seed}");
-            short += u64::from(answer == Err(Refusal::OutputTooShort));
-            refused += u64::from(length.is_err());
-            count += 1;
-        }
+        tried.every_output(seed, (length, &case.image), |out| {
+            bafirolen::write_header_body(&draft, out)
+        });
     }
-    assert!(short > 0 && refused > 0);
-    compared(count, "writes of measured bodies into every output");
+    compared(
+        tried.both_came_about(),
+        "writes of measured bodies into every output",
+    );
 }
 
 /// Bodies of 4 GiB and of 8 GiB, and of a few bytes less and more, in both

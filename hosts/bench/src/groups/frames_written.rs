@@ -4,6 +4,7 @@
 
 use super::lists::ROTATION;
 use crate::answer::agreed;
+use crate::measure::Times;
 use crate::table::Table;
 use crate::{ours, theirs};
 use generator::frames::{image, parts, run};
@@ -84,26 +85,32 @@ fn filled(requests: &[Request], [ours, theirs]: &[Vec<u8>; 2]) {
     assert!(requests.any(|request| ours.starts_with(&request.image)));
 }
 
-fn write(table: &mut Table, shape: Shape) {
+/// Two sides that write the same requests, each into an output of its own.
+fn written(
+    shape: Shape,
+    one: impl Fn(&Request, &mut [u8]) -> u64,
+    other: impl Fn(&Request, &mut [u8]) -> u64,
+) -> Times {
     let requests = requests(shape);
     let request = |call: usize| &black_box(&requests[..])[call % requests.len()];
     let mut outs = outputs(&requests);
-    let [our_out, their_out] = &mut outs;
+    let [out, other_out] = &mut outs;
     let times = agreed(
         requests.len(),
         None,
-        |call| {
-            let asked = request(call);
-            let out = black_box(&mut *our_out);
-            ours::write_frames(asked.frame_length, &asked.text, &asked.table, out)
-        },
-        |call| {
-            let asked = request(call);
-            let out = black_box(&mut *their_out);
-            theirs::write_frames(asked.frame_length, &asked.text, &asked.table, out)
-        },
+        |call| one(request(call), black_box(&mut *out)),
+        |call| other(request(call), black_box(&mut *other_out)),
     );
     filled(&requests, &outs);
+    times
+}
+
+fn write(table: &mut Table, shape: Shape) {
+    let times = written(
+        shape,
+        |asked, out| ours::write_frames(asked.frame_length, &asked.text, &asked.table, out),
+        |asked, out| theirs::write_frames(asked.frame_length, &asked.text, &asked.table, out),
+    );
     table.row(&format!("frames written, {}", shape.0), "reference", times);
 }
 
@@ -180,25 +187,13 @@ fn length(table: &mut Table, shape: Shape) {
 
 /// Both sides are ours. The output of the one is just as long as the frames.
 fn length_and_write(table: &mut Table, shape: Shape) {
-    let requests = requests(shape);
-    let request = |call: usize| &black_box(&requests[..])[call % requests.len()];
-    let mut outs = outputs(&requests);
-    let [out, other] = &mut outs;
-    let times = agreed(
-        requests.len(),
-        None,
-        |call| {
-            let asked = request(call);
-            let out = black_box(&mut *out);
+    let times = written(
+        shape,
+        |asked, out| {
             ours::measure_and_write_frames(asked.frame_length, &asked.text, &asked.table, out)
         },
-        |call| {
-            let asked = request(call);
-            let out = black_box(&mut *other);
-            ours::write_frames(asked.frame_length, &asked.text, &asked.table, out)
-        },
+        |asked, out| ours::write_frames(asked.frame_length, &asked.text, &asked.table, out),
     );
-    filled(&requests, &outs);
     table.row(
         &format!("frames length and write, {}", shape.0),
         "ours, write alone",
