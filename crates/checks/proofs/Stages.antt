@@ -77,6 +77,13 @@ module _ (k x y : ℕ) (cs : List Check) (r : Checked) where
   pass-eq h e = e ∙ sym (ap checked (first-pass k (eqb x y) cs (eq-eqb _ _ h)))
 
 module _ (k x y : ℕ) (cs : List Check) (r : Checked) where
+  pub check-ne : x ≡ y → r ≡ Fails (because k 0) → r ≡ checked (first (check k (not (eqb x y)) ∷ cs))
+  check-ne h e = e ∙ sym (ap checked (first-stop k (not (eqb x y)) cs (ap not (eq-eqb _ _ h))))
+
+  pub pass-ne : (x ≡ y → ⊥) → r ≡ checked (first cs) → r ≡ checked (first (check k (not (eqb x y)) ∷ cs))
+  pass-ne h e = e ∙ sym (ap checked (first-pass k (not (eqb x y)) cs (ap not (ne-eqb _ _ h))))
+
+module _ (k x y : ℕ) (cs : List Check) (r : Checked) where
   pub check-le : y < x → r ≡ Fails (because k 0) → r ≡ checked (first (check k (leb x y) ∷ cs))
   check-le h e = e ∙ sym (ap checked (first-stop k (leb x y) cs (lt-leb _ _ h)))
 

@@ -24,11 +24,15 @@ places-long = each-long place 2 (λ p. refl)
 pub pair-numbers-long : (ps : List PairAt) → length (pair-numbers ps) ≡ 4 * length ps
 pair-numbers-long ps = let a = places-long (images pair-places ps) in let b = each-long pair-places 2 (λ p. refl) ps in omega arith
 
+-- three places each: keys and frames
+three-long : {A : Type 0} (f : A → List Part) → ((x : A) → length (f x) ≡ 3) → (xs : List A) → length (images place (images f xs)) ≡ 6 * length xs
+three-long f h xs = let a = places-long (images f xs) in let b = each-long f 3 h xs in omega arith
+
 pub key-numbers-long : (ks : List EncryptedDataKeyAt) → length (key-numbers ks) ≡ 6 * length ks
-key-numbers-long ks = let a = places-long (images key-places ks) in let b = each-long key-places 3 (λ k. refl) ks in omega arith
+key-numbers-long = three-long key-places (λ k. refl)
 
 pub frame-numbers-long : (fs : List FrameAt) → length (frame-numbers fs) ≡ 6 * length fs
-frame-numbers-long fs = let a = places-long (images frame-places fs) in let b = each-long frame-places 3 (λ f. refl) fs in omega arith
+frame-numbers-long = three-long frame-places (λ f. refl)
 
 -- the two numbers of a place
 pub place-there : (table : List ℕ) (p : Part) (l : List ℕ) (at : ℕ) → drop at table ≡ place p ++ l → (getD table at 0 ≡ p .start) × (getD table (at + 1) 0 ≡ length (p .bytes))

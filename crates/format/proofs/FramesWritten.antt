@@ -4,7 +4,7 @@ use mathlib.Core.Path.{_≡_, refl, sym, ap, subst, _∙_}
 use mathlib.Core.Bool.{true, not}
 use mathlib.Core.Option.{none, some}
 use mathlib.Core.List.{List, [], _∷_, _++_, map, append-nil}
-use Prim.Native.Nat.{ℕ, _+_, _*_, _-_, _/_, _≤_, _<_}
+use Prim.Native.Nat.{ℕ, _+_, _*_, _-_, _≤_, _<_}
 use native.Mathlib.Omega.{arith}
 use native.Mathlib.Nat.{zero-add}
 use lib.Dec.{leb, eqb}
@@ -21,7 +21,7 @@ use Rattle.format.specs.FramesWritten.{FramesToWrite, ReadsBack, frames-
 use Rattle.format.proofs.Tests.{leb-is, is-leb, nleb-is, eqb-is, is-eqb, neqb-is}
 use Rattle.format.proofs.Firsts.{Holds, holds, unheld, split, join, first-pass, first-stop, first-none}
 use Rattle.format.proofs.Filled.{frame-numbers-long, frames-there}
-use Rattle.format.proofs.WrittenBack.{passes, front}
+use Rattle.format.proofs.WrittenBack.{passes, front, just-those}
 use Rattle.format.proofs.Writers.{writer-law}
 use Rattle.format.proofs.Size.{size-law}
 use Rattle.format.proofs.FrameLaws.{frame-laws, frames-length, frames-read, frames-within, frames-end, above-0}
@@ -110,9 +110,7 @@ module _ (frame : ℕ) (text table out : List ℕ) (n : ℕ) (e : written (writi
 
 -- what was read is handed over
 frames-back : (m : List ℕ) (fs : List FrameAt) → Each (Held m) (images frame-places fs) → frames-in m (frame-numbers fs) ≡ map frame-of fs
-frames-back m fs h =
-    let n : length (frame-numbers fs) / 6 ≡ length fs = (let e = frame-numbers-long fs in omega arith) in
-    rw n (frames-there m (frame-numbers fs) fs [] 0 h (sym (append-nil (frame-numbers fs))))
+frames-back m fs h = just-those 6 (frame-numbers fs) _ fs _ (let e = frame-numbers-long fs in omega arith) (frames-there m (frame-numbers fs) fs [] 0 h)
 
 module _ (frame room : ℕ) (m : List ℕ) (s : ℕ) (hb : Bytes m) (fs : List FrameAt) (t : ℕ) (e : operation (read-frames-into frame room) m s ≡ accepted fs t) where
   abbrev value : List Frame

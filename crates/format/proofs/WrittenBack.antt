@@ -44,15 +44,16 @@ passes k m ps whole h =
 pub front : (numbers table : List ℕ) (n : ℕ) → length numbers ≡ n → take n (filled numbers table) ≡ numbers
 front numbers table n e = rw (← e) (take-append-seam numbers (drop (length numbers) table))
 
+-- a table of just those entries has so many items
+pub just-those : {A B : Type 0} (k : ℕ) (numbers : List ℕ) (item : ℕ → B) (xs : List A) (value : List B) → length numbers / k ≡ length xs
+    → (drop 0 numbers ≡ numbers ++ [] → items item k (length xs) 0 ≡ value) → items item k (length numbers / k) 0 ≡ value
+just-those k numbers item xs value n h = rw n (h (sym (append-nil numbers)))
+
 pairs-back : (m : List ℕ) (ps : List PairAt) → Each (Held m) (images pair-places ps) → pairs-in m (pair-numbers ps) ≡ map pair-of ps
-pairs-back m ps h =
-    let n : length (pair-numbers ps) / 4 ≡ length ps = (let e = pair-numbers-long ps in omega arith) in
-    rw n (pairs-there m (pair-numbers ps) ps [] 0 h (sym (append-nil (pair-numbers ps))))
+pairs-back m ps h = just-those 4 (pair-numbers ps) _ ps _ (let e = pair-numbers-long ps in omega arith) (pairs-there m (pair-numbers ps) ps [] 0 h)
 
 keys-back : (m : List ℕ) (ks : List EncryptedDataKeyAt) → Each (Held m) (images key-places ks) → keys-in m (key-numbers ks) ≡ map key-of ks
-keys-back m ks h =
-    let n : length (key-numbers ks) / 6 ≡ length ks = (let e = key-numbers-long ks in omega arith) in
-    rw n (keys-there m (key-numbers ks) ks [] 0 h (sym (append-nil (key-numbers ks))))
+keys-back m ks h = just-those 6 (key-numbers ks) _ ks _ (let e = key-numbers-long ks in omega arith) (keys-there m (key-numbers ks) ks [] 0 h)
 
 module _ (m : List ℕ) (s : ℕ) (v : Sent) (q : Request) (tests : q .frames ≡ true) (ok : BodyOk q v) (after : List ℕ) (split : drop s m ≡ sent-bytes v ++ after) (pairTable keyTable : List ℕ) where
   abbrev b : HeaderBody

@@ -3,13 +3,12 @@ use Prim.Native.Nat.{ℕ, _+_, _*_, _-_, _/_, _≤_, _<_}
 use native.Mathlib.Nat.{sub-zero}
 use native.Mathlib.Omega.{arith}
 use mathlib.Core.Path.{_≡_, refl, sym, ap, ap₂, _∙_}
-use mathlib.Core.Bool.{not}
 use mathlib.Core.Option.{none, some}
 use mathlib.Core.List.{List, [], _∷_}
-use lib.Dec.{leb, eqb}
+use lib.Dec.{leb}
 use lib.ListN.{length, getD}
 use borrow.Author.Tests.{eq-eqb, ne-eqb, le-leb, lt-leb}
-use Rattle.format.specs.Checks.{Check, check, first, each, sealed-checks, content-checks}
+use Rattle.format.specs.Checks.{first, each, sealed-checks, content-checks}
 use Rattle.format.specs.Lent.{items, here}
 use Rattle.format.proofs.Firsts.{first-pass, first-stop}
 use Rattle.wire.specs.Codes.{because}
@@ -85,11 +84,3 @@ module _ (frame : ℕ) (table : List ℕ) (c : Checked) (is : c ≡ checked (fir
 
   pub lengths-pass : c ≡ Passes → (w : ℕ) → w ≡ frame → (r : Checked) → r ≡ checked (first (content-checks w (contents-in table))) → r ≡ checked (first (lengths-checks frame table))
   lengths-pass e w f r q = q ∙ rw f refl ∙ sym (stage-passes _ c is (content-checks frame (contents-in table)) e)
-
--- a check that two numbers differ
-module _ (k x y : ℕ) (cs : List Check) (r : Checked) where
-  pub check-ne : x ≡ y → r ≡ Fails (because k 0) → r ≡ checked (first (check k (not (eqb x y)) ∷ cs))
-  check-ne h e = e ∙ sym (ap checked (first-stop k (not (eqb x y)) cs (ap not (eq-eqb _ _ h))))
-
-  pub pass-ne : (x ≡ y → ⊥) → r ≡ checked (first cs) → r ≡ checked (first (check k (not (eqb x y)) ∷ cs))
-  pass-ne h e = e ∙ sym (ap checked (first-pass k (not (eqb x y)) cs (ap not (ne-eqb _ _ h))))

@@ -1,6 +1,5 @@
-use Rattle.checks.proofs.Stages.{check-eq, pass-eq, check-stop, check-pass, check-le, pass-le}
+use Rattle.checks.proofs.Stages.{check-eq, pass-eq, check-ne, pass-ne, check-stop, check-pass, check-le, pass-le}
 use Rattle.frames_write.proofs.Lengths.{frames-checked}
-use Rattle.frames_write.proofs.Contents.{check-ne, pass-ne}
 use borrow.Author.Needs.{needs}
 use Rattle.frames_write.proofs.checking.check_frames.Statement.{statement}
 use Rattle.frames_write.proofs.checking.check_frames.Tie as tie
