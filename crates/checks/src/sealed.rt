@@ -7,14 +7,19 @@ ghost use mathlib.Core.Path.{_≡_};
 ghost use Rattle.format.specs.Checks.{first, sealed-checks};
 ghost use Rattle.checks.specs.Answers.{checked};
 
+// Of every suite.
+const IV_LEN: usize = 12;
+
+const TAG_LEN: usize = 16;
+
 // 19; 30.
 pub fn check_sealed(iv: usize, tag: usize) -> Checked
     ensures { λ r. ⌜ r ≡ checked (first (sealed-checks iv tag)) ⌝ }
 {
-    if iv != 12 {
+    if iv != IV_LEN {
         return fails(IV_LENGTH);
     }
-    if tag != 16 {
+    if tag != TAG_LEN {
         return fails(TAG_LENGTH);
     }
     Checked::Passes

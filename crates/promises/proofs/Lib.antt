@@ -5,5 +5,5 @@ pub mod WrittenBack
 pub mod Listed
 pub mod OnlyAuthenticated
 pub mod Frames
-pub mod Source
 pub mod FramesWritten
+pub mod Source
