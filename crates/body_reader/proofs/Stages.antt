@@ -11,7 +11,7 @@ use Rattle.format.specs.Shared.{frame-fits}
 use Rattle.format.specs.Fields.{PairAt, EncryptedDataKeyAt}
 use Rattle.format.specs.Context.{Mode, read-aad-section, ContextAt, form-between, mark, with-mark}
 use Rattle.format.specs.Keys.{read-encrypted-data-keys-section}
-use Rattle.format.specs.Body.{Request, Opening, Closing, whole, read-opening, read-closing, after-context, after-opening, read-body}
+use Rattle.format.specs.Body.{Request, Opening, Closing, whole, read-opening, read-closing, after-keys, after-context, after-opening, read-body}
 use Rattle.steps.proofs.Tidy.{Tidy, bind-tidy, return-tidy}
 use Rattle.steps.proofs.Steps.{go, stop, pass, fail, gives}
 use Rattle.context.proofs.Known.{section-tidy as context-tidy}
@@ -54,36 +54,36 @@ module _ (q : Request) (m : List ℕ) (s : ℕ) where
       behind-context = go _ (opening-tidy (q .which)) m s o first opened ∙ go _ (marked-tidy (q .mode)) m first x second (marked-go (q .mode) m first ps second paired)
 
       pub at-keys : (k p : ℕ) → at (read-encrypted-data-keys-section (q .max)) m second ≡ refused k p → at (read-body q) m s ≡ refused k p
-      unfolding after-context
+      unfolding after-context after-keys
       at-keys k p e = behind-context ∙ stop _ (keys-tidy (q .max)) m second k p e
 
       module _ (ks : List EncryptedDataKeyAt) (third : ℕ) (keyed : at (read-encrypted-data-keys-section (q .max)) m second ≡ accepted ks third) where
         pub at-closing : (k p : ℕ) → at (read-closing (eqb (o .version) 1)) m third ≡ refused k p → at (read-body q) m s ≡ refused k p
-        unfolding after-context
+        unfolding after-context after-keys
         at-closing k p e = behind-context ∙ go _ (keys-tidy (q .max)) m second ks third keyed ∙ stop _ (closing-tidy (eqb (o .version) 1)) m third k p e
 
         module _ (c : Closing) (t : ℕ) (closed : at (read-closing (eqb (o .version) 1)) m third ≡ accepted c t) where
           pub at-20 : not (q .frames) || frame-fits (c .contentType) (c .frameLength) ≡ false → at (read-body q) m s ≡ refused 20 0
-          unfolding after-context
+          unfolding after-context after-keys
           at-20 e =
               behind-context ∙ go _ (keys-tidy (q .max)) m second ks third keyed ∙ go _ (closing-tidy (eqb (o .version) 1)) m third c t closed ∙ fail 20 _ _ m t e
 
           module _ (framed : not (q .frames) || frame-fits (c .contentType) (c .frameLength) ≡ true) where
             pub at-22 : q .pairRoom < 4 * length ps → at (read-body q) m s ≡ refused 22 0
-            unfolding after-context
+            unfolding after-context after-keys
             at-22 h =
                 behind-context ∙ go _ (keys-tidy (q .max)) m second ks third keyed ∙ go _ (closing-tidy (eqb (o .version) 1)) m third c t closed ∙ pass 20 _ _ m t framed
                 ∙ fail 22 _ _ m t (lt-leb _ _ h)
 
             module _ (held : 4 * length ps ≤ q .pairRoom) where
               pub at-23 : q .keyRoom < 6 * length ks → at (read-body q) m s ≡ refused 23 0
-              unfolding after-context
+              unfolding after-context after-keys
               at-23 h =
                   behind-context ∙ go _ (keys-tidy (q .max)) m second ks third keyed ∙ go _ (closing-tidy (eqb (o .version) 1)) m third c t closed ∙ pass 20 _ _ m t framed
                   ∙ pass 22 _ _ m t (le-leb _ _ held) ∙ fail 23 _ _ m t (lt-leb _ _ h)
 
               pub at-whole : 6 * length ks ≤ q .keyRoom → at (read-body q) m s ≡ accepted (whole o (record { form = form-between first second; pairs = ps }) ks c) t
-              unfolding after-context
+              unfolding after-context after-keys
               at-whole h =
                   behind-context ∙ go _ (keys-tidy (q .max)) m second ks third keyed ∙ go _ (closing-tidy (eqb (o .version) 1)) m third c t closed ∙ pass 20 _ _ m t framed
                   ∙ pass 22 _ _ m t (le-leb _ _ held) ∙ pass 23 _ _ m t (le-leb _ _ h) ∙ gives _ m t

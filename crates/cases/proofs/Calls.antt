@@ -5,7 +5,7 @@ use mathlib.Core.Option.{Option, none, some}
 use mathlib.Core.List.{List, [], _∷_, _++_, map}
 use Prim.Native.Nat.{ℕ, zero, suc, _+_, _*_, _/_, _%_, _<_}
 use native.Mathlib.Omega.{arith}
-use lib.ListN.{length, getD, take, replicate, length-replicate}
+use lib.ListN.{length, getD, take, drop, replicate, length-replicate}
 use borrow.Author.Tests.{ne-eqb, lt-leb}
 use Rattle.format.specs.Serialize.{every}
 use Rattle.format.specs.Read.{Reader, Answer, accepted, refused, operation}
@@ -18,7 +18,7 @@ use Rattle.format.specs.Frames.{read-frames-into}
 use Rattle.format.specs.OnlyAuthenticated.{write-only-authenticated}
 use Rattle.format.specs.Checks.{first, frames-checks}
 use Rattle.format.specs.Lent.{items, in-text, part-in, frame-in, frames-in, table-checks, BodyToWrite, fields-to-write, size-of, writing-header-body, writing-frames}
-use Rattle.format.specs.Refusals.{section-refusals, opening-refusals, reserved-refusals, frame-refusals, closing-refusals, keys-refusals, body-refusals, auth-refusals, frames-refusals}
+use Rattle.format.specs.Refusals.{section-refusals, opening-refusals, reserved-refusals, frame-refusals, closing-refusals, key-section-refusals, keys-refusals, body-refusals, auth-refusals, frames-refusals}
 use Rattle.format.specs.Size.{size-refusals}
 use Rattle.cases.specs.Cases.{H, opened, laid-out}
 use Rattle.cases.specs.Headers.{bytes-from, V2}
@@ -26,7 +26,7 @@ use Rattle.cases.specs.Tags.{selecting}
 use Rattle.format.proofs.Firsts.{first-pass, first-stop}
 use Rattle.format.proofs.Tables.{items-length}
 use Rattle.cases.specs.Frames.{iv, tag, regular, final, two, two-places, of-frames}
-use Rattle.cases.specs.Faults.{id, some-text, lent-in}
+use Rattle.cases.specs.Faults.{id, some-text, one, lent-in}
 use Rattle.cases.specs.Occurs.{listed-for}
 
 -- a refusal's number
@@ -79,12 +79,16 @@ openings either = (0x03 ∷ []) ∷ (0x01 ∷ 0x81 ∷ []) ∷ (0x01 ∷ 0x80 �
 openings v1-only = (0x03 ∷ []) ∷ (0x02 ∷ []) ∷ (0x01 ∷ 0x81 ∷ []) ∷ (0x01 ∷ 0x80 ∷ 0x00 ∷ 0x00 ∷ []) ∷ (0x01 ∷ 0x80 ∷ 0x04 ∷ 0x78 ∷ []) ∷ []
 openings v2-only = (0x03 ∷ []) ∷ (0x01 ∷ []) ∷ (0x02 ∷ 0x00 ∷ 0x00 ∷ []) ∷ (0x02 ∷ 0x01 ∷ 0x78 ∷ []) ∷ []
 
--- the reserved bytes and IV length that refuse 18 and 19, the frame length that refuses 20, behind no pairs and no keys
+-- an empty context section and a key section of one key with no bytes
+abbrev one-key : List ℕ
+one-key = 0x00 ∷ 0x00 ∷ 0x00 ∷ 0x01 ∷ 0x00 ∷ 0x00 ∷ 0x00 ∷ 0x00 ∷ 0x00 ∷ 0x00 ∷ []
+
+-- the reserved bytes and IV length that refuse 18 and 19, the frame length that refuses 20, behind them
 abbrev reserved : List (List ℕ)
-reserved = (0x00 ∷ 0x00 ∷ 0x00 ∷ 0x00 ∷ 0x02 ∷ 0x00 ∷ 0x00 ∷ 0x00 ∷ 0x01 ∷ []) ∷ (0x00 ∷ 0x00 ∷ 0x00 ∷ 0x00 ∷ 0x02 ∷ 0x00 ∷ 0x00 ∷ 0x00 ∷ 0x00 ∷ 0x0B ∷ []) ∷ []
+reserved = (one-key ++ (0x02 ∷ 0x00 ∷ 0x00 ∷ 0x00 ∷ 0x01 ∷ [])) ∷ (one-key ++ (0x02 ∷ 0x00 ∷ 0x00 ∷ 0x00 ∷ 0x00 ∷ 0x0B ∷ [])) ∷ []
 
 abbrev closings : Which → List (List ℕ)
-closings either = reserved ++ ((0x00 ∷ 0x00 ∷ 0x00 ∷ 0x00 ∷ 0x02 ∷ closing-bytes true) ∷ [])
+closings either = reserved ++ ((one-key ++ (0x02 ∷ closing-bytes true)) ∷ [])
 closings v1-only = reserved
 closings v2-only = []
 
@@ -93,15 +97,15 @@ is-v1 either = true
 is-v1 v1-only = true
 is-v1 v2-only = false
 
--- what refuses behind an opening, with at most one key, a table for one pair and none for keys: the section's numbers, 15 to 17, the
--- closing's, two pairs and one key
+-- what refuses behind an opening, with at most one key, a table for one pair and none for keys: the section's numbers, 38, 15 to 17, the
+-- closing's, two pairs with a key and one key
 abbrev behind-opening : Which → List (List ℕ)
 behind-opening which =
     sections
-    ++ (((0x00 ∷ 0x00 ∷ 0x00 ∷ 0x02 ∷ []) ∷ (0x00 ∷ 0x00 ∷ 0x00 ∷ 0x01 ∷ 0x00 ∷ 0x01 ∷ 0xFF ∷ []) ∷ (0x00 ∷ 0x00 ∷ 0x00 ∷ 0x00 ∷ 0x03 ∷ []) ∷ [])
+    ++ (((0x00 ∷ 0x00 ∷ 0x00 ∷ 0x00 ∷ []) ∷ (0x00 ∷ 0x00 ∷ 0x00 ∷ 0x02 ∷ []) ∷ (0x00 ∷ 0x00 ∷ 0x00 ∷ 0x01 ∷ 0x00 ∷ 0x01 ∷ 0xFF ∷ []) ∷ (one-key ++ (0x03 ∷ [])) ∷ [])
     ++ (closings which
-    ++ ((0x00 ∷ 0x0B ∷ 0x00 ∷ 0x02 ∷ 0x00 ∷ 0x00 ∷ 0x00 ∷ 0x00 ∷ 0x00 ∷ 0x01 ∷ 0x61 ∷ 0x00 ∷ 0x00 ∷ 0x00 ∷ 0x00 ∷ 0x01 ∷ closing-bytes (is-v1 which))
-    ∷ (0x00 ∷ 0x00 ∷ 0x00 ∷ 0x01 ∷ 0x00 ∷ 0x00 ∷ 0x00 ∷ 0x00 ∷ 0x00 ∷ 0x00 ∷ 0x01 ∷ closing-bytes (is-v1 which))
+    ++ ((0x00 ∷ 0x0B ∷ 0x00 ∷ 0x02 ∷ 0x00 ∷ 0x00 ∷ 0x00 ∷ 0x00 ∷ 0x00 ∷ 0x01 ∷ 0x61 ∷ 0x00 ∷ 0x00 ∷ drop 2 one-key ++ (0x01 ∷ closing-bytes (is-v1 which)))
+    ∷ (one-key ++ (0x01 ∷ closing-bytes (is-v1 which)))
     ∷ [])))
 
 abbrev pub body-calls : Which → List Call
@@ -115,15 +119,15 @@ abbrev pub Answered : Which → Type 0
 Answered which = (mode : Mode) → map (body-said which mode) (body-calls which) ≡ map some (listed-for which tolerant)
 
 either-answers : Answered either
-unfolding opened said sections H V2 bytes-from opening-refusals section-refusals reserved-refusals frame-refusals closing-refusals body-refusals
+unfolding opened said sections H V2 bytes-from opening-refusals section-refusals reserved-refusals frame-refusals closing-refusals key-section-refusals body-refusals
 either-answers mode = refl
 
 v1-answers : Answered v1-only
-unfolding opened said sections H V2 bytes-from opening-refusals section-refusals reserved-refusals frame-refusals closing-refusals body-refusals
+unfolding opened said sections H V2 bytes-from opening-refusals section-refusals reserved-refusals frame-refusals closing-refusals key-section-refusals body-refusals
 v1-answers mode = refl
 
 v2-answers : Answered v2-only
-unfolding opened said sections H V2 bytes-from opening-refusals section-refusals reserved-refusals frame-refusals closing-refusals body-refusals
+unfolding opened said sections H V2 bytes-from opening-refusals section-refusals reserved-refusals frame-refusals closing-refusals key-section-refusals body-refusals
 v2-answers mode = refl
 
 pub body-answers : (which : Which) → Answered which
@@ -164,10 +168,10 @@ no-output = refl
 
 -- a key section with at most one key and no table
 abbrev pub key-calls : List Call
-key-calls = far-and-short ++ calls ((0x00 ∷ 0x02 ∷ []) ∷ (0x00 ∷ 0x01 ∷ 0x00 ∷ 0x01 ∷ 0xFF ∷ []) ∷ (0x00 ∷ 0x01 ∷ 0x00 ∷ 0x00 ∷ 0x00 ∷ 0x00 ∷ 0x00 ∷ 0x00 ∷ []) ∷ [])
+key-calls = far-and-short ++ calls ((0x00 ∷ 0x00 ∷ []) ∷ (0x00 ∷ 0x02 ∷ []) ∷ (0x00 ∷ 0x01 ∷ 0x00 ∷ 0x01 ∷ 0xFF ∷ []) ∷ (0x00 ∷ 0x01 ∷ 0x00 ∷ 0x00 ∷ 0x00 ∷ 0x00 ∷ 0x00 ∷ 0x00 ∷ []) ∷ [])
 
 pub key-answers : map (said (read-encrypted-data-keys-section-into (at-most 1) 0)) key-calls ≡ map some keys-refusals
-unfolding opened said read-encrypted-data-keys-section-into keys-refusals
+unfolding opened said read-encrypted-data-keys-section-into key-section-refusals keys-refusals
 key-answers = refl
 
 -- an authentication record of no bytes, by suite and start
@@ -204,10 +208,10 @@ abbrev pub size-said : BodyToWrite → Option ℕ
 size-said b = number-of (size-of (writing-header-body b))
 
 abbrev opened-by : ℕ → ℕ → ℕ → List ℕ → BodyToWrite
-opened-by version messageType suite messageId = lent-in today some-text version messageType suite messageId [] [] 2 12 [] 1
+opened-by version messageType suite messageId = lent-in today some-text version messageType suite messageId [] one 2 12 [] 1
 
 abbrev with-pairs : Form → List ℕ → List ℕ → BodyToWrite
-with-pairs form text pairTable = lent-in form text 1 0x80 0x0178 id pairTable [] 2 12 [] 1
+with-pairs form text pairTable = lent-in form text 1 0x80 0x0178 id pairTable one 2 12 [] 1
 
 abbrev closed-by : List ℕ → ℕ → ℕ → List ℕ → ℕ → BodyToWrite
 closed-by = lent-in today some-text 1 0x80 0x0178 id []
@@ -226,11 +230,12 @@ size-calls =
     ∷ with-pairs today some-text (0 ∷ 0 ∷ 0 ∷ 0 ∷ 0 ∷ 0 ∷ 0 ∷ 0 ∷ [])
     ∷ with-pairs today (zeros 65530) (0 ∷ 65530 ∷ 0 ∷ 0 ∷ [])
     ∷ with-pairs old some-text (0 ∷ 0 ∷ 0 ∷ 0 ∷ [])
+    ∷ closed-by [] 2 12 [] 1
     ∷ closed-by (6 ∷ 1 ∷ 0 ∷ 0 ∷ 0 ∷ 0 ∷ []) 2 12 [] 1
-    ∷ closed-by [] 0 12 [] 1
-    ∷ closed-by [] 2 0 [] 1
-    ∷ closed-by [] 2 12 (0 ∷ []) 1
-    ∷ closed-by [] 2 12 [] 0
+    ∷ closed-by one 0 12 [] 1
+    ∷ closed-by one 2 0 [] 1
+    ∷ closed-by one 2 12 (0 ∷ []) 1
+    ∷ closed-by one 2 12 [] 0
     ∷ []
 
 pub size-answers : map size-said size-calls ≡ map some size-refusals

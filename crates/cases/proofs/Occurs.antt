@@ -14,7 +14,7 @@ use Rattle.format.specs.Body.{Which, either, v1-only, v2-only, read-header-body
 use Rattle.format.specs.Auth.{read-header-auth-tag}
 use Rattle.format.specs.Frames.{read-frames-into}
 use Rattle.format.specs.OnlyAuthenticated.{write-only-authenticated}
-use Rattle.format.specs.Refusals.{section-refusals, context-refusals, find-refusals, only-authenticated-refusals, opening-refusals, reserved-refusals, frame-refusals, closing-refusals, keys-refusals, body-refusals, auth-refusals, frames-refusals}
+use Rattle.format.specs.Refusals.{section-refusals, context-refusals, find-refusals, only-authenticated-refusals, opening-refusals, reserved-refusals, frame-refusals, closing-refusals, key-section-refusals, keys-refusals, body-refusals, auth-refusals, frames-refusals}
 use Rattle.format.specs.Checks.{first}
 use Rattle.format.specs.Lent.{written-of, Writing, size-of, writing-header-body, writing-frames}
 use Rattle.format.specs.Size.{size-refusals, frames-size-refusals}
@@ -96,7 +96,7 @@ of-only-authenticated k h =
 
 -- a body
 without-21 : (which : Which) → has-all (21 ∷ listed-for which tolerant) (listed-for which strict) ≡ true
-unfolding opening-refusals section-refusals reserved-refusals frame-refusals closing-refusals body-refusals
+unfolding opening-refusals section-refusals reserved-refusals frame-refusals closing-refusals key-section-refusals body-refusals
 without-21 either = refl
 without-21 v1-only = refl
 without-21 v2-only = refl

@@ -104,6 +104,10 @@ some-text = 0x6C ∷ 0x61 ∷ 0x6E ∷ 0x67 ∷ 0x63 ∷ 0x79 ∷ 0xFF ∷ []
 abbrev to-write : ℕ → ℕ → ℕ → List ℕ → List ℕ → List ℕ → ℕ → ℕ → List ℕ → ℕ → Writing
 to-write = to-write-in today some-text
 
+-- a key table of one key, whose parts are empty
+abbrev pub one : List ℕ
+one = 0 ∷ 0 ∷ 0 ∷ 0 ∷ 0 ∷ 0 ∷ []
+
 -- marked old, with those tables and nothing behind them that would pass
 abbrev old-with : List ℕ → List ℕ → Writing
 old-with pairTable keyTable = to-write-in old some-text 1 0x80 0x0178 id pairTable keyTable 0 0 [] 0
@@ -139,11 +143,19 @@ faults =
     ∷ body either 0 0 (take 20 H ++ (0x00 ∷ 0x02 ∷ 0x00 ∷ 0x01 ∷ 0xFF ∷ [])) 0 (refuses 8 0)
     ∷ body either 0 0 (take 20 H ++ (0x00 ∷ 0x04 ∷ 0x00 ∷ 0x01 ∷ 0x00 ∷ 0x05 ∷ [])) 0 (refuses 32 0)
     ∷ body either 0 0 (take 34 H ++ (0x00 ∷ 0x01 ∷ 0x00 ∷ 0x01 ∷ 0xFF ∷ 0x00 ∷ 0x00 ∷ 0x00 ∷ 0x00 ∷ 0x03 ∷ [])) 0 (refuses 16 0)
+    ∷ body either 0 0 (take 34 H ++ (0x00 ∷ [])) 0 (shortage-at 36)
+    ∷ body either 0 0 (take 34 H ++ (0x00 ∷ 0x00 ∷ 0x03 ∷ [])) 0 (refuses 38 0)
+    ∷ body either 0 0 (take 34 H ++ (0x00 ∷ 0x00 ∷ [])) 0 (refuses 38 0)
+    ∷ body v1-only 0 0 (take 34 H ++ (0x00 ∷ 0x00 ∷ drop 48 H)) 0 (refuses 38 0)
+    ∷ body v2-only 0 0 (take 45 V2 ++ (0x00 ∷ 0x00 ∷ drop 55 V2)) 0 (refuses 38 0)
+    ∷ body either 0 0 (take 20 H ++ (0x00 ∷ 0x07 ∷ 0x00 ∷ 0x01 ∷ 0x00 ∷ 0x00 ∷ 0x00 ∷ 0x00 ∷ 0x00 ∷ 0x00 ∷ 0x00 ∷ [])) 0 (refuses 14 0)
     ∷ body either 0 0 (take 55 V2) 0 (shortage-at 56)
     ∷ body either 0 0 (take 55 V2 ++ (0x02 ∷ 0x00 ∷ 0x00 ∷ 0x00 ∷ [])) 0 (shortage-at 60)
     ∷ body either 0 0 (take 55 V2 ++ (0x02 ∷ 0x00 ∷ 0x00 ∷ 0x00 ∷ 0x00 ∷ [])) 0 (shortage-at 92)
     ∷ body either 0 0 (take 55 V2 ++ (0x02 ∷ drop 56 V2)) 0 (refuses 20 0)
     ∷ strictly (take 20 H ++ (0x00 ∷ 0x02 ∷ 0x00 ∷ 0x00 ∷ [])) (refuses 21 0)
+    ∷ strictly (take 20 H ++ (0x00 ∷ 0x02 ∷ 0x00 ∷ 0x00 ∷ 0x00 ∷ 0x00 ∷ [])) (refuses 21 0)
+    ∷ strictly (take 20 H ++ (0x00 ∷ 0x00 ∷ 0x00 ∷ 0x00 ∷ 0x03 ∷ [])) (refuses 38 0)
     ∷ strictly (take 20 H ++ (0x00 ∷ 0x02 ∷ 0x00 ∷ 0x01 ∷ [])) (refuses 8 0)
     -- find a value
     ∷ find (0x61 ∷ []) (0x00 ∷ 0x07 ∷ 0x00 ∷ 0x01 ∷ 0x00 ∷ 0x00 ∷ 0x00 ∷ 0x00 ∷ 0x00 ∷ []) (refuses 14 0)
@@ -175,6 +187,9 @@ faults =
     ∷ section tolerant 0 (0x00 ∷ 0x07 ∷ 0x00 ∷ 0x01 ∷ 0x00 ∷ 0x00 ∷ 0x00 ∷ 0x00 ∷ 0x00 ∷ []) (refuses 14 0)
     ∷ section tolerant 3 (0x00 ∷ 0x06 ∷ 0x00 ∷ 0x01 ∷ 0x00 ∷ 0x00 ∷ 0x00 ∷ 0x00 ∷ []) (refuses 22 0)
     -- read a key section
+    ∷ keys 0 (0x00 ∷ []) (shortage-at 2)
+    ∷ keys 0 (0x00 ∷ 0x00 ∷ []) (refuses 38 0)
+    ∷ keys 0 (0x00 ∷ 0x00 ∷ 0x00 ∷ 0x01 ∷ 0xFF ∷ []) (refuses 38 0)
     ∷ keys 0 (0x00 ∷ 0x02 ∷ []) (refuses 15 0)
     ∷ keys 0 (0x00 ∷ 0x01 ∷ 0x00 ∷ 0x01 ∷ 0xFF ∷ []) (refuses 16 0)
     ∷ keys 5 (0x00 ∷ 0x01 ∷ 0x00 ∷ 0x00 ∷ 0x00 ∷ 0x00 ∷ 0x00 ∷ []) (shortage-at 8)
@@ -218,12 +233,14 @@ faults =
     ∷ write (to-write 1 0x80 0x0178 id (0 ∷ 4 ∷ 4 ∷ 2 ∷ 0 ∷ 4 ∷ 4 ∷ 2 ∷ []) (0 ∷ []) 0 0 [] 0) 12
     ∷ write (to-write 1 0x80 0x0178 id (0 ∷ 4 ∷ 4 ∷ 2 ∷ []) (6 ∷ 1 ∷ 0 ∷ 0 ∷ 0 ∷ 0 ∷ 0 ∷ []) 0 0 [] 0) 26
     ∷ write (to-write 1 0x80 0x0178 id (0 ∷ 4 ∷ 4 ∷ 2 ∷ []) (6 ∷ 1 ∷ 0 ∷ 0 ∷ 0 ∷ 0 ∷ []) 0 0 [] 0) 16
-    ∷ write (to-write 1 0x80 0x0178 id (0 ∷ 4 ∷ 4 ∷ 2 ∷ []) [] 0 0 (0 ∷ []) 0) 17
-    ∷ write (to-write 1 0x80 0x0178 id (0 ∷ 4 ∷ 4 ∷ 2 ∷ []) [] 2 0 (0 ∷ []) 0) 19
-    ∷ write (to-write 1 0x80 0x0178 id (0 ∷ 4 ∷ 4 ∷ 2 ∷ []) [] 2 12 (0 ∷ []) 0) 25
-    ∷ write (to-write 1 0x80 0x0178 id (0 ∷ 4 ∷ 4 ∷ 2 ∷ []) [] 2 12 [] 0) 20
-    ∷ write (to-write 1 0x80 0x0178 id (0 ∷ 4 ∷ 4 ∷ 2 ∷ []) [] 1 12 [] 1) 20
-    ∷ write (to-write 1 0x80 0x0178 id (0 ∷ 4 ∷ 4 ∷ 2 ∷ []) [] 2 12 [] 1) 28
+    ∷ write (to-write 1 0x80 0x0178 id (0 ∷ 4 ∷ 4 ∷ 2 ∷ []) (0 ∷ 0 ∷ []) 0 0 [] 0) 26
+    ∷ write (to-write 1 0x80 0x0178 id (0 ∷ 4 ∷ 4 ∷ 2 ∷ []) [] 0 0 [] 0) 38
+    ∷ write (to-write 1 0x80 0x0178 id (0 ∷ 4 ∷ 4 ∷ 2 ∷ []) one 0 0 (0 ∷ []) 0) 17
+    ∷ write (to-write 1 0x80 0x0178 id (0 ∷ 4 ∷ 4 ∷ 2 ∷ []) one 2 0 (0 ∷ []) 0) 19
+    ∷ write (to-write 1 0x80 0x0178 id (0 ∷ 4 ∷ 4 ∷ 2 ∷ []) one 2 12 (0 ∷ []) 0) 25
+    ∷ write (to-write 1 0x80 0x0178 id (0 ∷ 4 ∷ 4 ∷ 2 ∷ []) one 2 12 [] 0) 20
+    ∷ write (to-write 1 0x80 0x0178 id (0 ∷ 4 ∷ 4 ∷ 2 ∷ []) one 1 12 [] 1) 20
+    ∷ write (to-write 1 0x80 0x0178 id (0 ∷ 4 ∷ 4 ∷ 2 ∷ []) one 2 12 [] 1) 28
     ∷ write (old-with (6 ∷ 1 ∷ 4 ∷ 2 ∷ []) []) 10
     ∷ write (old-with (0 ∷ 4 ∷ 4 ∷ 3 ∷ []) []) 11
     ∷ write (old-with (0 ∷ 4 ∷ 4 ∷ 2 ∷ 0 ∷ 4 ∷ 4 ∷ 2 ∷ []) []) 12
@@ -232,11 +249,15 @@ faults =
     ∷ write (old-with (0 ∷ 4 ∷ 4 ∷ 2 ∷ []) (6 ∷ 1 ∷ 0 ∷ 0 ∷ 0 ∷ 0 ∷ [])) 33
     ∷ write (old-with (0 ∷ 4 ∷ 4 ∷ 2 ∷ []) []) 33
     ∷ write (old-with [] (0 ∷ [])) 26
-    ∷ write (old-with [] []) 17
+    ∷ write (old-with [] []) 38
+    ∷ write (old-with [] one) 17
     ∷ write (to-write-in old some-text 1 0x80 0x0178 id (0 ∷ 4 ∷ 4 ∷ 2 ∷ []) [] 2 12 [] 1) 33
-    ∷ write (to-write-in old some-text 1 0x80 0x0178 id [] [] 2 12 [] 1) 28
+    ∷ write (to-write-in old some-text 1 0x80 0x0178 id [] [] 2 12 [] 1) 38
+    ∷ write (to-write-in old some-text 1 0x80 0x0178 id [] one 2 12 [] 1) 28
     ∷ write (to-write-in old (zeros 65530) 1 0x80 0x0178 id (0 ∷ 65530 ∷ 0 ∷ 0 ∷ []) (0 ∷ []) 0 0 [] 0) 13
     ∷ write (to-write-in today (zeros 65530) 1 0x80 0x0178 id (0 ∷ 65530 ∷ 0 ∷ 0 ∷ []) (0 ∷ []) 0 0 [] 0) 13
+    ∷ write (to-write-in today (zeros 65530) 1 0x80 0x0178 id (0 ∷ 65530 ∷ 0 ∷ 0 ∷ []) [] 0 0 [] 0) 13
+    ∷ write (to-write-in today (zeros 65536) 1 0x80 0x0178 id (0 ∷ 65536 ∷ 0 ∷ 0 ∷ []) [] 0 0 [] 0) 27
     -- write a section, a record
     ∷ write (writing-aad-section (long-text 65536) (0 ∷ 65536 ∷ 65536 ∷ 1 ∷ [])) 26
     ∷ write (writing-aad-section (long-text 65536) (0 ∷ 65536 ∷ 0 ∷ 0 ∷ [])) 27
@@ -248,7 +269,8 @@ faults =
     ∷ write (writing-aad-section [] (0 ∷ 0 ∷ [])) 26
     ∷ write (writing-aad-section [] []) 28
     ∷ write (writing-encrypted-data-keys-section [] (0 ∷ 0 ∷ 0 ∷ 0 ∷ [])) 26
-    ∷ write (writing-encrypted-data-keys-section [] []) 28
+    ∷ write (writing-encrypted-data-keys-section [] []) 38
+    ∷ write (writing-encrypted-data-keys-section [] one) 28
     ∷ write (writing-header-auth-tag 0x0000 [] []) 6
     ∷ write (writing-header-auth-tag 0x0178 [] []) 19
     ∷ write (writing-header-auth-tag 0x0478 id []) 19

@@ -5,8 +5,9 @@ use native.Mathlib.Nat.{add-zero}
 use native.Mathlib.Omega.{arith}
 use mathlib.Core.Path.{_≡_, refl, sym, ap, _∙_}
 use mathlib.Core.Option.{none}
+use mathlib.Core.Bool.{Bool, not}
 use mathlib.Core.List.{List, [], _∷_, _++_}
-use lib.Dec.{leb, ltb}
+use lib.Dec.{leb, ltb, eqb}
 use lib.ListN.{length}
 use borrow.Author.Tests.{eqb-true, ltb-true, lt-ltb, le-ltb}
 use Rattle.format.specs.Serialize.{sum, images, every, entry-length}
@@ -23,7 +24,7 @@ use Rattle.checks.specs.Table.{short, numbers-checks, entries-size, Pass
 use Rattle.checks.specs.declared.Checked.{Checked}
 use Rattle.checks.specs.declared.Checked.the-variants.{Passes, Fails}
 use Rattle.checks.proofs.Items.{sum-of-images}
-use Rattle.checks.proofs.Stages.{first-cong, stage-passes, stage-fails, front, back}
+use Rattle.checks.proofs.Stages.{first-cong, stage-passes, stage-fails, front, back, check-ne, pass-ne}
 use Rattle.checks.proofs.Parts.{passed, in-fours, in-sixes, parts-size, parts-short}
 
 -- 26 and 27 of the numbers are those of the items
@@ -72,7 +73,10 @@ module _ (text table : List ℕ) where
   abbrev key-table : List Check
   key-table = table-checks 6 text table ++ count-checks (length (keys-in text table)) (images key-parts (keys-in text table))
 
-  key-stages : writing-encrypted-data-keys-section text table .checks ≡ key-table ++ each key-checks [] (keys-in text table)
+  abbrev some-key : Bool
+  some-key = not (eqb (length (keys-in text table)) 0)
+
+  key-stages : writing-encrypted-data-keys-section text table .checks ≡ key-table ++ (check 38 some-key ∷ each key-checks [] (keys-in text table))
   unfolding writing-encrypted-data-keys-section keys-checks table-checks
   key-stages = refl
 
@@ -110,8 +114,26 @@ module _ (text table : List ℕ) (a : Checked) (is : a ≡ checked (first (numbe
   pub keys-table : (r : Refusal) → a ≡ Fails r → Fails r ≡ checked (first (writing-encrypted-data-keys-section text table .checks))
   keys-table r e = rw (key-stages text table) (sym (stage-fails (key-table text table) a key-table-is _ r e))
 
-  pub keys-each : a ≡ Passes → (b : Checked) → b ≡ checked (first (each key-checks [] (keys-in text table))) → b ≡ checked (first (writing-encrypted-data-keys-section text table .checks))
-  keys-each e b bIs = rw (key-stages text table) (bIs ∙ sym (stage-passes (key-table text table) a key-table-is _ e))
+  module _ (e : a ≡ Passes) where
+    left-keys : checked (first (writing-encrypted-data-keys-section text table .checks)) ≡ checked (first (check 38 (some-key text table) ∷ each key-checks [] (keys-in text table)))
+    left-keys = rw (key-stages text table) (stage-passes (key-table text table) a key-table-is _ e)
+
+    -- a table in sixes has a key unless it is empty
+    how-many : length (keys-in text table) ≡ length table / 6
+    how-many = items-length (key-in text table) 6 (length table / 6) 0
+
+    pub keys-38 : length table ≡ 0 → (r : Checked) → r ≡ Fails (because 38 0) → r ≡ checked (first (writing-encrypted-data-keys-section text table .checks))
+    keys-38 h r f = check-ne 38 _ 0 _ r (how-many ∙ omega arith) f ∙ sym left-keys
+
+    pub keys-each : (length table ≡ 0 → ⊥) → (b : Checked) → b ≡ checked (first (each key-checks [] (keys-in text table))) → b ≡ checked (first (writing-encrypted-data-keys-section text table .checks))
+    keys-each h b bIs = pass-ne 38 _ 0 _ b some bIs ∙ sym left-keys
+      where
+        some : length (keys-in text table) ≡ 0 → ⊥
+        some z =
+            let p = passed 6 text table a is e in
+            let n = how-many in
+            let w : length table ≡ 0 = omega (arith, p .whole) in
+            h w
 
 -- what checks that all pass leave known
 module _ (text table : List ℕ) where

@@ -3,6 +3,7 @@ use super::Checked;
 use super::fails;
 use super::tables::check_table;
 use super::tables::is_text;
+use wire::refusals::NO_ENCRYPTED_DATA_KEY;
 use wire::refusals::PROVIDER_ID_NOT_UTF8;
 ghost use mathlib.Core.Path.{_≡_};
 ghost use mathlib.Core.Bool.{true};
@@ -44,13 +45,16 @@ fn check_each_key(text: &[u8], table: &[u32]) -> Checked
     Checked::Passes
 }
 
-// Write a key section, all but 28: 26; 27; per key 16.
+// Write a key section, all but 28: 26; 27; 38; per key 16.
 pub fn check_keys(text: &[u8], table: &[u32]) -> Checked
     ensures { λ r. ⌜ r ≡ checked (first (writing-encrypted-data-keys-section (now (text .entry)) (now (table .entry)) .checks)) ⌝ }
 {
     let a = check_table(text, table, 6);
     if let Checked::Fails(r) = a {
         return Checked::Fails(r);
+    }
+    if table.len() == 0 {
+        return fails(NO_ENCRYPTED_DATA_KEY);
     }
     check_each_key(text, table)
 }

@@ -17,7 +17,7 @@ use Rattle.format.proofs.Tests.{leb-is, is-leb, eqb-is, is-eqb}
 use Rattle.format.proofs.Exact.{Oks}
 use Rattle.format.proofs.Serialize.{Short}
 use Rattle.format.proofs.Context.{PairOk, NextOk, room-all, linear-length-snoc}
-use Rattle.format.proofs.Keys.{KeyOk}
+use Rattle.format.proofs.Keys.{KeyOk, KeyListOk}
 use Rattle.format.proofs.Ends.{SuiteOk, TopOk, RestOk, EndOk, version-is}
 use Rattle.format.proofs.Body.{Sent, BodyOk, top-of, end-of}
 use Rattle.format.proofs.Firsts.{Holds, holds, unheld, split, join, both, and}
@@ -105,13 +105,16 @@ then-pairs ps few o =
     let room : linear-length [] + linear-length ps < pairs-limit = room-all [] ps (omega arith) o in
     (leb-is (length ps) 65535 (omega arith), (p .0, join (each pair-checks [] ps) (check 13 (ltb (linear-length ps) pairs-limit) ∷ []) (p .1) (leb-is (suc (linear-length ps)) pairs-limit (omega arith), tt)))
 
-pub keys-then : (ks : List EncryptedDataKey) → Holds (keys-checks ks) → (length ks < 65536) × Oks KeyOk [] ks
+pub keys-then : (ks : List EncryptedDataKey) → Holds (keys-checks ks) → KeyListOk ks
 unfolding keys-checks
-keys-then ks (n, (f, h)) = let few = is-leb (length ks) 65535 n in (omega arith, keys-good [] ks f h)
+keys-then ks (n, (f, (some, h))) = let few = is-leb (length ks) 65535 n in record { few = omega arith; some = some; each = keys-good [] ks f h }
 
-pub then-keys : (ks : List EncryptedDataKey) → length ks < 65536 → Oks KeyOk [] ks → Holds (keys-checks ks)
+pub then-keys : (ks : List EncryptedDataKey) → KeyListOk ks → Holds (keys-checks ks)
 unfolding keys-checks
-then-keys ks few o = let k = keys-pass [] ks o in (leb-is (length ks) 65535 (omega arith), (k .0, k .1))
+then-keys ks o =
+    let few = o .few in
+    let k = keys-pass [] ks (o .each) in
+    (leb-is (length ks) 65535 (omega arith), (k .0, (o .some, k .1)))
 
 -- what fields are that our writer accepts, given the mark
 pub record Good (form : Form) (f : Fields) : Type 0 where
@@ -119,8 +122,7 @@ pub record Good (form : Form) (f : Fields) : Type 0 where
   pub few-pairs : length (f .pairs) < 65536
   pub pairs : Oks NextOk [] (f .pairs)
   pub t33 : fits-form form (length (f .pairs)) ≡ true
-  pub few-keys : length (f .keys) < 65536
-  pub keys : Oks KeyOk [] (f .keys)
+  pub keys : KeyListOk (f .keys)
   pub end : EndOk (eqb (f .version) 1) (end-of f)
   pub t20 : frame-fits (f .contentType) (f .frameLength) ≡ true
 
@@ -137,7 +139,6 @@ good form f a =
     let (hp, (h33, r′)) = split (pairs-checks (f .pairs)) (form-checks form (length (f .pairs)) ++ (keys-checks (f .keys) ++ closes f)) r in
     let (hk, z) = split (keys-checks (f .keys)) (closes f) r′ in
     let p = pairs-then (f .pairs) hp in
-    let k = keys-then (f .keys) hk in
     record {
       top = record {
         t3 = t .0;
@@ -151,8 +152,7 @@ good form f a =
       few-pairs = p .0;
       pairs = p .1;
       t33 = h33;
-      few-keys = k .0;
-      keys = k .1;
+      keys = keys-then (f .keys) hk;
       end = record { t17 = z .0; t19 = is-eqb _ _ (z .1 .0); wide = a .frame-is-32-bits; sized = is-eqb _ _ (z .1 .1 .0) };
       t20 = z .1 .1 .1 .0;
     }
@@ -167,7 +167,7 @@ accepts form f g =
           (g .top .t3, (eqb-is _ _ (r .t5), (r .suite .t6, (rw (version-is (f .version) (g .top .t3)) at (r .suite .t7), (eqb-is _ _ (r .sized), tt)))))
           (join (pairs-checks (f .pairs)) (form-checks form (length (f .pairs)) ++ (keys-checks (f .keys) ++ closes f)) (then-pairs (f .pairs) (g .few-pairs) (g .pairs)) (
             g .t33,
-            join (keys-checks (f .keys)) (closes f) (then-keys (f .keys) (g .few-keys) (g .keys))
+            join (keys-checks (f .keys)) (closes f) (then-keys (f .keys) (g .keys))
                 (g .end .t17, (eqb-is _ _ (g .end .t19), (eqb-is _ _ (g .end .sized), (g .t20, tt)))),
           )));
       frame-is-32-bits = g .end .wide;
@@ -181,8 +181,7 @@ body-good q tests x o =
       few-pairs = o .context .section .few;
       pairs = o .context .section .each;
       t33 = o .context .fits;
-      few-keys = o .keys .few;
-      keys = o .keys .each;
+      keys = o .keys .list;
       end = o .end;
       t20 = rw tests at (o .t20);
     }

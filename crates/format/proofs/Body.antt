@@ -11,7 +11,7 @@ use Rattle.format.specs.Shared.{frame-fits}
 use Rattle.format.specs.Fields.{Form, Pair, EncryptedDataKey, Fields, HeaderBody, pair-of, key-of, fields-of}
 use Rattle.format.specs.Context.{write-aad-pair}
 use Rattle.format.specs.Keys.{write-encrypted-data-key, write-encrypted-data-keys-section}
-use Rattle.format.specs.Body.{Request, whole, after-context, after-opening, read-body, image}
+use Rattle.format.specs.Body.{Request, whole, after-keys, after-context, after-opening, read-body, image}
 use Rattle.format.proofs.Exact.{Exact, seq-exact, check-exact, check-as, give-exact, revalue, length-puts, map-puts}
 use Rattle.format.proofs.Context.{pair-at, Context, context-bytes}
 use Rattle.format.proofs.Marked.{MarkedOk, marked-at, marked-exact}
@@ -73,7 +73,7 @@ body-at s x =
     whole (top-at s h) (marked-at t c) (keys-at u (x .fields .keys)) (end-at (v1-of h) v (end-of (x .fields)))
 
 pub body-exact : (q : Request) → Exact (read-body q) (BodyOk q) sent-bytes body-at
-unfolding read-body after-opening after-context image
+unfolding read-body after-opening after-context after-keys image
 body-exact q =
     revalue (BodyOk q) sent-bytes body-at
     (seq-exact _ (opening-exact (q .which)) λ r h. seq-exact _ (marked-exact (q .mode)) λ s c. seq-exact _ (keys-exact (q .max)) λ t ks. seq-exact _ (closing-exact (eqb (h .version) 1)) λ u e.

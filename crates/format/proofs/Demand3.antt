@@ -5,6 +5,7 @@ use Rattle.format.proofs.Strict as strict
 use Rattle.format.proofs.OneVersion as one-version
 use Rattle.format.proofs.Marks as marks
 use Rattle.format.proofs.Written as written
+use Rattle.format.proofs.WithoutKeys as without-keys
 use Rattle.format.proofs.Find as find
 
 pub demand-3 : Demand3
@@ -15,5 +16,6 @@ demand-3 =
       sentence-3 = one-version.sentence-3;
       marks = marks.marks;
       sentence-4 = written.sentence-4;
+      no-keys = without-keys.no-keys;
       finds = find.finds;
     }

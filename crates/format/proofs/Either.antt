@@ -83,7 +83,7 @@ module _ (max : Max) (pairRoom keyRoom : ℕ) (m : List ℕ) (s : ℕ) where
       record {
         top = g .top;
         context = record { section = record { allowed = tt; few = g .few-pairs; each = g .pairs }; fits = g .t33 };
-        keys = record { few = g .few-keys; below = h .max-not-passed; each = g .keys };
+        keys = record { list = g .keys; below = h .max-not-passed };
         end = g .end;
         t20 = g .t20;
         t22 = leb-is _ _ (h .pairs-held);

@@ -44,7 +44,7 @@ unfolding read-uint
 uint-goes width = bind-goes (read-goes width) (λ p. return-goes _)
 
 -- the bytes are there where no shortage applies
-there : (n : ℕ) (m : List ℕ) (s : ℕ) → 0 < n → first-line (lacks n m s ∷ []) ≡ none → s + n ≤ length m
+pub there : (n : ℕ) (m : List ℕ) (s : ℕ) → 0 < n → first-line (lacks n m s ∷ []) ≡ none → s + n ≤ length m
 there n m s h₀ e = let h : n < suc (length m - s) = is-nleb (suc (length m - s)) n (one-none (lacks n m s) [] e .0) in omega arith
 
 pub uint8-goes : Goes read-uint8 (λ m s. lacks 1 m s ∷ []) number8 (λ m s. s + 1)
@@ -170,7 +170,7 @@ key-goes = bind-goes (text-goes no-end 16) (λ p. bind-goes (entry-goes no-end) 
 
 pub keys-goes : (max : Max) → Goes (read-encrypted-data-keys-section max) (keys-list max) section-keys section-keys-end
 unfolding read-encrypted-data-keys-section keys-list
-keys-goes max = bind-goes uint16-goes (λ count. test-goes _ _ (repeat-goes (λ acc. key-goes) count []))
+keys-goes max = bind-goes uint16-goes (λ count. not-goes 38 (eqb count 0) (test-goes _ _ (repeat-goes (λ acc. key-goes) count [])))
 
 pub keys-into-goes : (max : Max) (room : ℕ) → Goes (read-encrypted-data-keys-section-into max room) (keys-into-list max room) section-keys section-keys-end
 unfolding read-encrypted-data-keys-section-into keys-into-list

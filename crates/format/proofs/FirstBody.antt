@@ -14,7 +14,7 @@ use Rattle.format.specs.Shared.{by, one-or-two, known, of-version, read-
 use Rattle.format.specs.Fields.{PairAt, EncryptedDataKeyAt, HeaderBody, pair-of}
 use Rattle.format.specs.Context.{Mode, tolerant, seen, look-up, find-value}
 use Rattle.format.specs.OnlyAuthenticated.{only-authenticated, fitting, write-only-authenticated}
-use Rattle.format.specs.Body.{Which, Opening, read-opening-of, read-opening, Closing, read-closing-of, read-closing, whole, Request, after-context, after-opening, read-body}
+use Rattle.format.specs.Body.{Which, Opening, read-opening-of, read-opening, Closing, read-closing-of, read-closing, whole, Request, after-keys, after-context, after-opening, read-body}
 use Rattle.format.specs.Auth.{HeaderAuth, zeros, read-header-auth-tag-of, read-header-auth-tag}
 use Rattle.format.specs.Places.{number8, number16, number32, part-of, entry-end, section-pairs, section-keys, section-keys-end, opening-here, closing-here, closing-end, body-here, body-end, value-of, value-here, auth-of-here, auth-here, auth-end}
 use Rattle.format.specs.First.{Line, lacks, when, unless, NoneApplies, FirstApplies, operation-list, opening-list-of, opening-list, closing-list-of, closing-list, frame-length-here, body-list, auth-list, find-list, only-authenticated-list, FirstRefusal, FirstRefusals}
@@ -77,7 +77,7 @@ content-is false m s = refl
 
 module _ (q : Request) where
   body-goes : Goes (read-body q) (body-list q) body-here body-end
-  unfolding read-body after-opening after-context body-list
+  unfolding read-body after-opening after-context after-keys body-list
   body-goes =
       goes-as
       (bind-goes (opening-goes (q .which)) (λ o. bind-goes (marked-goes (q .mode)) (λ x. bind-goes (keys-goes (q .max)) (λ ks. bind-goes (closing-goes (eqb (o .version) 1)) (λ c.

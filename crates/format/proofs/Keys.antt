@@ -1,8 +1,9 @@
 -- The key section is read exactly as it is written. Assumes nothing.
 use mathlib.Core.Path.{_≡_, refl}
-use mathlib.Core.Bool.{Bool, true}
+use mathlib.Core.Bool.{Bool, true, not}
 use mathlib.Core.List.{List, [], _∷_, _++_, append-nil, map}
 use Prim.Native.Nat.{ℕ, _+_, _<_}
+use lib.Dec.{eqb}
 use lib.ListN.{length}
 use Rattle.format.specs.Read.{_>>=_, _>>_, return, test, repeat}
 use Rattle.format.specs.Serialize.{Part, write-short-length-seq, images}
@@ -34,10 +35,15 @@ key-exact acc =
     (λ w o. (record { keyProviderId = w .0; keyProviderInfo = w .1 .0; ciphertext = w .1 .1 .0 }, record { provider = o .0; info = o .1 .0; cipher = o .1 .1 .0 }, simp append-nil, λ s. refl))
     (λ k o. ((k .keyProviderId, (k .keyProviderInfo, (k .ciphertext, tt))), (o .provider, (o .info, (o .cipher, tt))), simp append-nil, λ s. refl))
 
-pub record KeysOk (max : Max) (ks : List EncryptedDataKey) : Type 0 where
+-- keys that a writer accepts
+pub record KeyListOk (ks : List EncryptedDataKey) : Type 0 where
   pub few : length ks < 65536
-  pub below : within (length ks) max ≡ true
+  pub some : not (eqb (length ks) 0) ≡ true
   pub each : Oks KeyOk [] ks
+
+pub record KeysOk (max : Max) (ks : List EncryptedDataKey) : Type 0 where
+  pub list : KeyListOk ks
+  pub below : within (length ks) max ≡ true
 
 abbrev pub keys-at : ℕ → List EncryptedDataKey → List EncryptedDataKeyAt
 keys-at s ks = puts write-encrypted-data-key key-at (s + 2) ks
@@ -46,8 +52,8 @@ pub keys-exact : (max : Max) → Exact (read-encrypted-data-keys-section max) (K
 unfolding read-encrypted-data-keys-section write-encrypted-data-keys-section write-encrypted-data-keys
 keys-exact max =
     revalue (KeysOk max) write-encrypted-data-keys-section keys-at
-    (seq-exact _ uint16-exact λ s count. check-exact 15 _ (many-exact KeyOk write-encrypted-data-key key-at key-of (λ s k. refl) (λ acc. read-encrypted-data-key) (λ acc. key-exact (map key-of acc)) count []))
+    (seq-exact _ uint16-exact λ s count. check-exact 38 _ (check-exact 15 _ (many-exact KeyOk write-encrypted-data-key key-at key-of (λ s k. refl) (λ acc. read-encrypted-data-key) (λ acc. key-exact (map key-of acc)) count [])))
     (λ w o.
-    let e : length (w .1) ≡ w .0 = o .1 .1 .0 in
-    (w .1, record { few = rw e (o .0); below = rw e (o .1 .0); each = o .1 .1 .1 }, rw e refl, λ s. rw length-uint16 refl))
-    (λ ks o. ((length ks, ks), (o .few, (o .below, (refl, o .each))), refl, λ s. rw length-uint16 refl))
+    let e : length (w .1) ≡ w .0 = o .1 .1 .1 .0 in
+    (w .1, record { list = record { few = rw e (o .0); some = rw e (o .1 .0); each = o .1 .1 .1 .1 }; below = rw e (o .1 .1 .0) }, rw e refl, λ s. rw length-uint16 refl))
+    (λ ks o. ((length ks, ks), (o .list .few, (o .list .some, (o .below, (refl, o .list .each)))), refl, λ s. rw length-uint16 refl))

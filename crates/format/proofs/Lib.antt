@@ -27,6 +27,8 @@ pub mod Listed
 pub mod Wanted
 pub mod Helps
 pub mod SourceListed
+pub mod BothRead
+pub mod NoKey
 pub mod SourceEquality
 pub mod Held
 pub mod Either
@@ -34,6 +36,7 @@ pub mod Strict
 pub mod Marks
 pub mod OneVersion
 pub mod Written
+pub mod WithoutKeys
 pub mod Find
 pub mod Demand3
 pub mod Numbered

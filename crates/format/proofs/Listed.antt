@@ -9,13 +9,13 @@ use lib.ListN.{length, drop, length-drop}
 use Rattle.format.specs.Read.{ReadResult, success, more-needed, error, Reader, _>>=_, _>>_, return, test, End, no-end, end-at, Answer, refused, answer, operation}
 use Rattle.format.specs.Serialize.{Part, read-short-length-seq, same-bytes}
 use Rattle.format.specs.Shared.{read-message-format-version, read-esdk-suite-id, read-content-type, frame-fits}
-use Rattle.format.specs.Fields.{PairAt}
+use Rattle.format.specs.Fields.{PairAt, EncryptedDataKeyAt}
 use Rattle.format.specs.Context.{Mode, tolerant, strict, read-text, read-aad-pair, read-next-aad-pair, read-aad-by, read-aad, read-aad-of, read-aad-section, ContextAt, with-mark, read-aad-section-into, look-up, find-value}
 use Rattle.format.specs.Keys.{Max, read-encrypted-data-key, read-encrypted-data-keys-section, read-encrypted-data-keys-section-into}
-use Rattle.format.specs.Body.{Which, either, v1-only, v2-only, read-opening-of, read-opening, read-closing-of, read-closing, Opening, Request, after-context, after-opening, read-body}
+use Rattle.format.specs.Body.{Which, either, v1-only, v2-only, read-opening-of, read-opening, read-closing-of, read-closing, Opening, Request, after-keys, after-context, after-opening, read-body}
 use Rattle.format.specs.Auth.{read-header-auth-tag-of, read-header-auth-tag}
 use Rattle.format.specs.OnlyAuthenticated.{fitting, write-only-authenticated}
-use Rattle.format.specs.Refusals.{section-refusals, context-refusals, find-refusals, only-authenticated-refusals, opening-refusals, reserved-refusals, frame-refusals, closing-refusals, keys-refusals, body-refusals, auth-refusals, frames-refusals, Refusal, RefusesBy, Refusals}
+use Rattle.format.specs.Refusals.{section-refusals, context-refusals, find-refusals, only-authenticated-refusals, opening-refusals, reserved-refusals, frame-refusals, closing-refusals, key-section-refusals, keys-refusals, body-refusals, auth-refusals, frames-refusals, Refusal, RefusesBy, Refusals}
 use Rattle.format.proofs.Tests.{is-eqb}
 use Rattle.format.proofs.Members.{has, has-neither, no-member}
 use Rattle.format.proofs.ListedLaws.{Fine, Listed, listed-as, also, bind-listed, then-listed, return-listed, sure-listed, test-listed, held-refusals, held-listed, read-listed, uint8-listed, uint16-listed, uint32-listed, repeat-listed, enclosed-listed, Gives, return-gives, bind-gives, passed-listed, passed-gives, given-listed, marked-listed}
@@ -67,7 +67,7 @@ of-listed mode true n = record { fine = λ l s. refl }
 of-listed tolerant false n = enclosed-listed n 14 (read-aad tolerant n) (aad-listed tolerant n)
 of-listed strict false n = enclosed-listed n 14 (read-aad strict n) (aad-listed strict n)
 
-section-listed : (mode : Mode) → Listed (section-refusals mode) (read-aad-section mode)
+pub section-listed : (mode : Mode) → Listed (section-refusals mode) (read-aad-section mode)
 unfolding read-aad-section
 section-listed mode = bind-listed uint16-listed (λ n. of-listed mode (eqb n 0) n)
 
@@ -94,15 +94,15 @@ unfolding write-only-authenticated fitting
 only-authenticated-listed text required room = bind-listed (section-listed tolerant) (λ ps. then-listed (test-listed 31 _) (then-listed (test-listed 28 _) (return-listed _)))
 
 -- the key section
-key-listed : Listed (16 ∷ []) read-encrypted-data-key
+pub key-listed : Listed (16 ∷ []) read-encrypted-data-key
 unfolding read-encrypted-data-key
 key-listed = bind-listed (text-listed no-end 16) (λ p. bind-listed (entry-listed no-end) (λ i. bind-listed (entry-listed no-end) (λ c. return-listed _)))
 
-keys-listed : (max : Max) → Listed (15 ∷ 16 ∷ []) (read-encrypted-data-keys-section max)
-unfolding read-encrypted-data-keys-section
-keys-listed max = bind-listed uint16-listed (λ count. then-listed (test-listed 15 _) (repeat-listed count (λ acc. key-listed) []))
+keys-listed : (max : Max) → Listed key-section-refusals (read-encrypted-data-keys-section max)
+unfolding read-encrypted-data-keys-section key-section-refusals
+keys-listed max = bind-listed uint16-listed (λ count. then-listed (test-listed 38 _) (then-listed (test-listed 15 _) (repeat-listed count (λ acc. key-listed) [])))
 
-keys-into-listed : (max : Max) (room : ℕ) → Listed (15 ∷ 16 ∷ 23 ∷ []) (read-encrypted-data-keys-section-into max room)
+keys-into-listed : (max : Max) (room : ℕ) → Listed (key-section-refusals ++ (23 ∷ [])) (read-encrypted-data-keys-section-into max room)
 unfolding read-encrypted-data-keys-section-into
 keys-into-listed max room = bind-listed (keys-listed max) (λ ks. then-listed (test-listed 23 _) (return-listed _))
 
@@ -128,7 +128,7 @@ version-listed = bind-listed uint8-listed (λ v. then-listed (test-listed 3 _) (
 not-one : (v : ℕ) → eqb v 2 ≡ true → eqb v 1 ≡ false
 not-one v e = rw (is-eqb v 2 e) refl
 
-opening-listed : (which : Which) → Listed (opening-refusals which) (read-opening which)
+pub opening-listed : (which : Which) → Listed (opening-refusals which) (read-opening which)
 unfolding read-opening opening-refusals
 opening-listed either = bind-listed version-listed (λ v. then-listed (sure-listed 4 refl) (rest-listed (eqb v 1)))
 opening-listed v1-only = bind-listed version-listed (λ v. then-listed (test-listed 4 _) (rest-listed (eqb v 1)))
@@ -164,13 +164,13 @@ closing-of-listed true content =
     bind-listed uint32-listed (λ r. then-listed (test-listed 18 _) (bind-listed uint8-listed (λ i. then-listed (test-listed 19 _) (bind-listed uint32-listed (λ f. return-listed _)))))
 closing-of-listed false content = also 18 (also 19 (second-closing-listed content))
 
-closing-listed : (which : Which) (o : Opening) → Opened which o → Listed (17 ∷ reserved-refusals which) (read-closing (eqb (o .version) 1))
+pub closing-listed : (which : Which) (o : Opening) → Opened which o → Listed (17 ∷ reserved-refusals which) (read-closing (eqb (o .version) 1))
 unfolding read-closing reserved-refusals
 closing-listed either o h = bind-listed content-listed (closing-of-listed _)
 closing-listed v1-only o h = bind-listed content-listed (closing-of-listed _)
 closing-listed v2-only o h = rw h (bind-listed content-listed second-closing-listed)
 
-tables-listed : (p k : Bool) {A : Type 0} (a : A) → Listed (22 ∷ 23 ∷ []) (test 22 p >> (test 23 k >> return a))
+pub tables-listed : (p k : Bool) {A : Type 0} (a : A) → Listed (22 ∷ 23 ∷ []) (test 22 p >> (test 23 k >> return a))
 tables-listed p k a = then-listed (test-listed 22 p) (then-listed (test-listed 23 k) (return-listed a))
 
 frames-listed : (frames fits : Bool) {A : Type 0} {r : Reader A} → Listed (22 ∷ 23 ∷ []) r → Listed (frame-refusals frames ++ (22 ∷ 23 ∷ [])) (test 20 (not frames || fits) >> r)
@@ -178,19 +178,21 @@ unfolding frame-refusals
 frames-listed true fits h = then-listed (test-listed 20 _) h
 frames-listed false fits h = then-listed (sure-listed 20 refl) h
 
-after-context-listed : (q : Request) (o : Opening) → Opened (q .which) o → (x : ContextAt) → Listed (closing-refusals (q .which) (q .frames)) (after-context q o x)
-unfolding after-context closing-refusals
-after-context-listed q o h x =
-    bind-listed (keys-listed (q .max)) (λ ks. bind-listed (closing-listed (q .which) o h) (λ c. frames-listed (q .frames) (frame-fits (c .contentType) (c .frameLength)) (tables-listed _ _ _)))
+after-keys-listed : (q : Request) (o : Opening) → Opened (q .which) o → (x : ContextAt) (ks : List EncryptedDataKeyAt) → Listed (closing-refusals (q .which) (q .frames)) (after-keys q o x ks)
+unfolding after-keys closing-refusals
+after-keys-listed q o h x ks = bind-listed (closing-listed (q .which) o h) (λ c. frames-listed (q .frames) (frame-fits (c .contentType) (c .frameLength)) (tables-listed _ _ _))
 
--- whatever its section is read by
-pub body-listed-by : (q : Request) {ks : List ℕ} {section : Reader (List PairAt)} → Listed ks section
-    → Listed (opening-refusals (q .which) ++ (ks ++ closing-refusals (q .which) (q .frames))) (read-opening (q .which) >>= λ o. with-mark section >>= after-context q o)
-body-listed-by q h = given-listed (opening-listed (q .which)) (opening-gives (q .which)) (λ o g. bind-listed (marked-listed h) (after-context-listed q o g))
+-- a body, whatever its sections are read by
+abbrev pub body-numbers : Request → List ℕ → List ℕ → List ℕ
+body-numbers q ks js = opening-refusals (q .which) ++ (ks ++ (js ++ closing-refusals (q .which) (q .frames)))
 
-body-listed : (q : Request) → Listed (opening-refusals (q .which) ++ (section-refusals (q .mode) ++ closing-refusals (q .which) (q .frames))) (read-body q)
-unfolding read-body after-opening
-body-listed q = body-listed-by q (section-listed (q .mode))
+pub body-listed-by : (q : Request) {ks js : List ℕ} {section : Reader (List PairAt)} {keys : Reader (List EncryptedDataKeyAt)} → Listed ks section → Listed js keys
+    → Listed (body-numbers q ks js) (read-opening (q .which) >>= λ o. with-mark section >>= λ x. keys >>= after-keys q o x)
+body-listed-by q h k = given-listed (opening-listed (q .which)) (opening-gives (q .which)) (λ o g. bind-listed (marked-listed h) (λ x. bind-listed k (after-keys-listed q o g x)))
+
+body-listed : (q : Request) → Listed (body-numbers q (section-refusals (q .mode)) key-section-refusals) (read-body q)
+unfolding read-body after-opening after-context
+body-listed q = body-listed-by q (section-listed (q .mode)) (keys-listed (q .max))
 
 -- an authentication record
 auth-of-listed : (v1 : Bool) → Listed [] (read-header-auth-tag-of v1)
@@ -230,54 +232,63 @@ module _ {A : Type 0} (ks : List ℕ) (r : Reader A) (no-two : List·Memᴰ 2 ks
       near : length m ≤ 4294967295 → s ≤ 4294967295 → operation r m s ≡ answer (r (drop s m) s) → Refusal (1 ∷ 2 ∷ ks) m k p
       near a b q = of (r (drop s m) s) (h .fine (drop s m) s) (sym q ∙ e)
 
--- What stands before a context section and behind it, by what was asked: 2 is listed by itself, 32 is a section's, and 13 only a writer's.
-abbrev Without : List ℕ → Type 0
-Without ks = (has ks 2 ≡ false) × (has ks 13 ≡ false) × (has ks 32 ≡ false)
+-- What stands before a body's sections and behind them, by what was asked: 2 is listed by itself, 32 is a context section's, 38 a key section's, and
+-- 13 only a writer's.
+abbrev Without : ℕ → List ℕ → Type 0
+Without k ks = has ks k ≡ false
 
-opening-without : (which : Which) → Without (opening-refusals which)
+abbrev WithoutThese : List ℕ → Type 0
+WithoutThese ks = Without 2 ks × Without 13 ks × Without 32 ks × Without 38 ks
+
+pub opening-without : (which : Which) → WithoutThese (opening-refusals which)
 unfolding opening-refusals
-opening-without either = (refl, refl, refl)
-opening-without v1-only = (refl, refl, refl)
-opening-without v2-only = (refl, refl, refl)
+opening-without either = (refl, refl, refl, refl)
+opening-without v1-only = (refl, refl, refl, refl)
+opening-without v2-only = (refl, refl, refl, refl)
 
-closing-without : (which : Which) (frames : Bool) → Without (closing-refusals which frames)
+closing-without : (which : Which) (frames : Bool) → WithoutThese (closing-refusals which frames)
 unfolding reserved-refusals frame-refusals closing-refusals
-closing-without either true = (refl, refl, refl)
-closing-without either false = (refl, refl, refl)
-closing-without v1-only true = (refl, refl, refl)
-closing-without v1-only false = (refl, refl, refl)
-closing-without v2-only true = (refl, refl, refl)
-closing-without v2-only false = (refl, refl, refl)
+closing-without either true = (refl, refl, refl, refl)
+closing-without either false = (refl, refl, refl, refl)
+closing-without v1-only true = (refl, refl, refl, refl)
+closing-without v1-only false = (refl, refl, refl, refl)
+closing-without v2-only true = (refl, refl, refl, refl)
+closing-without v2-only false = (refl, refl, refl, refl)
 
--- a body's numbers with a section's between them
-module _ (q : Request) (ks : List ℕ) where
-  abbrev body-numbers : List ℕ
-  body-numbers = opening-refusals (q .which) ++ (ks ++ closing-refusals (q .which) (q .frames))
+-- a body's numbers with the sections' between them
+module _ (q : Request) (ks js : List ℕ) where
+  neither : (k : ℕ) → Without k (opening-refusals (q .which)) → Without k (closing-refusals (q .which) (q .frames)) → Without k ks → Without k js → Without k (body-numbers q ks js)
+  neither k o c e f =
+      let closing = closing-refusals (q .which) (q .frames) in
+      has-neither (opening-refusals (q .which)) (ks ++ (js ++ closing)) k o (has-neither ks (js ++ closing) k e (has-neither js closing k f c))
 
-  pub body-without-2 : has ks 2 ≡ false → has body-numbers 2 ≡ false
-  body-without-2 e = has-neither (opening-refusals (q .which)) (ks ++ closing-refusals (q .which) (q .frames)) 2 (opening-without (q .which) .0) (has-neither ks (closing-refusals (q .which) (q .frames)) 2 e (closing-without (q .which) (q .frames) .0))
+  pub body-without-2 : Without 2 ks → Without 2 js → Without 2 (body-numbers q ks js)
+  body-without-2 = neither 2 (opening-without (q .which) .0) (closing-without (q .which) (q .frames) .0)
 
-  pub body-without-13 : has ks 13 ≡ false → has body-numbers 13 ≡ false
-  body-without-13 e = has-neither (opening-refusals (q .which)) (ks ++ closing-refusals (q .which) (q .frames)) 13 (opening-without (q .which) .1) (has-neither ks (closing-refusals (q .which) (q .frames)) 13 e (closing-without (q .which) (q .frames) .1))
+  pub body-without-13 : Without 13 ks → Without 13 js → Without 13 (body-numbers q ks js)
+  body-without-13 = neither 13 (opening-without (q .which) .1) (closing-without (q .which) (q .frames) .1)
 
-  pub body-without-32 : has ks 32 ≡ false → has body-numbers 32 ≡ false
-  body-without-32 e = has-neither (opening-refusals (q .which)) (ks ++ closing-refusals (q .which) (q .frames)) 32 (opening-without (q .which) .2) (has-neither ks (closing-refusals (q .which) (q .frames)) 32 e (closing-without (q .which) (q .frames) .2))
+  pub body-without-32 : Without 32 ks → Without 32 js → Without 32 (body-numbers q ks js)
+  body-without-32 = neither 32 (opening-without (q .which) .2) (closing-without (q .which) (q .frames) .2)
+
+  pub body-without-38 : Without 38 ks → Without 38 js → Without 38 (body-numbers q ks js)
+  body-without-38 = neither 38 (opening-without (q .which) .3) (closing-without (q .which) (q .frames) .3)
 
 -- a section's, which have 32 among them
-pub section-without : (mode : Mode) → (has (section-refusals mode) 2 ≡ false) × (has (section-refusals mode) 13 ≡ false)
+pub section-without : (mode : Mode) → Without 2 (section-refusals mode) × Without 13 (section-refusals mode) × Without 38 (section-refusals mode)
 unfolding section-refusals
-section-without tolerant = (refl, refl)
-section-without strict = (refl, refl)
+section-without tolerant = (refl, refl, refl)
+section-without strict = (refl, refl, refl)
 
 pub refusals : Refusals
-unfolding context-refusals find-refusals only-authenticated-refusals keys-refusals body-refusals auth-refusals frames-refusals
+unfolding context-refusals find-refusals only-authenticated-refusals key-section-refusals keys-refusals body-refusals auth-refusals frames-refusals
 refusals =
     record {
       of-context = λ mode room. refuses _ _ (no-member _ 2 (has-neither (section-refusals mode) (22 ∷ []) 2 (section-without mode .0) refl)) (section-into-listed mode room);
       of-find = λ k. refuses _ _ (no-member _ 2 (has-neither (section-refusals tolerant) (29 ∷ []) 2 (section-without tolerant .0) refl)) (find-listed k);
       of-only-authenticated = λ text required room. refuses _ _ (no-member _ 2 (has-neither (section-refusals tolerant) (31 ∷ 28 ∷ []) 2 (section-without tolerant .0) refl)) (only-authenticated-listed text required room);
       of-keys = λ max room. refuses _ _ (no-member _ 2 refl) (keys-into-listed max room);
-      of-body = λ q. refuses _ _ (no-member _ 2 (body-without-2 q (section-refusals (q .mode)) (section-without (q .mode) .0))) (body-listed q);
+      of-body = λ q. refuses _ _ (no-member _ 2 (body-without-2 q (section-refusals (q .mode)) key-section-refusals (section-without (q .mode) .0) refl)) (body-listed q);
       of-auth = λ suite. refuses _ _ (no-member _ 2 refl) (auth-listed suite);
       of-frames = λ frame room. refuses _ _ (no-member _ 2 refl) (frames-into-listed frame room);
     }

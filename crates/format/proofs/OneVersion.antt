@@ -12,7 +12,7 @@ use Rattle.format.specs.Shared.{read-message-format-version}
 use Rattle.format.specs.Fields.{HeaderBody}
 use Rattle.format.specs.Context.{Mode}
 use Rattle.format.specs.Keys.{Max}
-use Rattle.format.specs.Body.{Which, either, v1-only, v2-only, asked, read-opening-of, read-opening, Request, request, after-context, after-opening, read-body, read-header-body, read-header-body-untested}
+use Rattle.format.specs.Body.{Which, either, v1-only, v2-only, asked, read-opening-of, read-opening, Request, request, after-keys, after-context, after-opening, read-body, read-header-body, read-header-body-untested}
 use Rattle.format.specs.Demand3.{stands-at, Sentence3}
 use Rattle.format.proofs.Tests.{is-leb, is-nleb, is-eqb}
 use Rattle.format.proofs.Serialize.{read-fits, read-short}
@@ -68,7 +68,7 @@ module _ (mode : Mode) (max : Max) (pairRoom keyRoom : ℕ) where
     by-version : (v1 : Bool) → eqb x 1 ≡ v1 → (v2 : Bool) → eqb x 2 ≡ v2
         → (from-version (asks v1-only) v1 v2 v1 l (s + 1) ≡ cond v2 (error 4) (from-version (asks either) v1 v2 true l (s + 1)))
         × (from-version (asks v2-only) v1 v2 v2 l (s + 1) ≡ cond v1 (error 4) (from-version (asks either) v1 v2 true l (s + 1)))
-    unfolding from-version test _>>_ after-opening after-context
+    unfolding from-version test _>>_ after-opening after-context after-keys
     by-version true e₁ true e₂ = let p = is-eqb x 1 e₁ in let q = is-eqb x 2 e₂ in absurd (omega arith)
     by-version true e₁ false e₂ = (refl, refl)
     by-version false e₁ true e₂ = (refl, refl)

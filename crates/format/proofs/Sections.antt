@@ -121,7 +121,7 @@ keys-law max room m s hb = record { only = only; all = all }
         let v : List EncryptedDataKey = x .value in
         let g = x .good .keys in
         let same : map key-of ks ≡ v = ap (map key-of) (x .placed) ∙ map-puts write-encrypted-data-key key-at key-of (λ s k. refl) (s + 2) v in (
-          rw same (record { accepts = unheld (keys-checks v) (then-keys v (g .few) (g .each)); max-not-passed = g .below; after = l; bytes = x .split; held = is-leb _ _ (x .good .t23) }),
+          rw same (record { accepts = unheld (keys-checks v) (then-keys v (g .list)); max-not-passed = g .below; after = l; bytes = x .split; held = is-leb _ _ (x .good .t23) }),
           rw same (x .tail),
           rw (x .placed) (keys-held m v s (record { after = l; is = x .split })),
         )
@@ -130,8 +130,7 @@ keys-law max room m s hb = record { only = only; all = all }
         → (places : List EncryptedDataKeyAt) × (operation (read-encrypted-data-keys-section-into max room) m s ≡ accepted places (s + length (write-encrypted-data-keys-section ks)))
         × (map key-of places ≡ ks) × Each (Held m) (images key-places places)
     all fits ks h =
-        let k = keys-then ks (holds (keys-checks ks) (h .accepts)) in
-        let o : KeysRoom max room ks = record { keys = record { few = k .0; below = h .max-not-passed; each = k .1 }; t23 = leb-is _ _ (h .held) } in
+        let o : KeysRoom max room ks = record { keys = record { list = keys-then ks (holds (keys-checks ks) (h .accepts)); below = h .max-not-passed }; t23 = leb-is _ _ (h .held) } in
         let near : s ≤ 4294967295 = start-fits m s (write-encrypted-data-keys-section ks) (h .after) (keys-not-empty ks) fits (h .bytes) in
         (keys-at s ks, reads (keys-into-exact max room) m s fits near ks o (h .after) (h .bytes), map-puts write-encrypted-data-key key-at key-of (λ s k. refl) (s + 2) ks, keys-held m ks s (record { after = h .after; is = h .bytes }))
 
@@ -211,7 +210,7 @@ module _ (text table out : List ℕ) where
       let (c, d, r, o) = writer-law w out .only-then n e in
       let long : length (filled (w .image) out) ≡ length out = ap length (sym o) ∙ writer-law w out .as-long in
       let k = keys-then ks (split (table-checks 6 text table) (keys-checks ks) (holds (w .checks) c) .1) in
-      let ok : KeysRoom max room ks = record { keys = record { few = k .0; below = b; each = k .1 }; t23 = leb-is _ _ h } in
+      let ok : KeysRoom max room ks = record { keys = record { list = k; below = b }; t23 = leb-is _ _ h } in
       rw (o, d) (keys-at 0 ks, reads-front (keys-into-exact max room) ks (drop (length (w .image)) out) (rw long fits) ok, map-puts write-encrypted-data-key key-at key-of (λ s k. refl) (0 + 2) ks)
 
 pub section-laws : SectionLaws

@@ -94,6 +94,11 @@ uint8-exact =
     (λ x o. let e : x % 256 ≡ x = omega arith in (x, omega arith, ap (λ y. y ∷ []) e, λ s. refl))
     (λ x o. let e : x % 256 ≡ x = omega arith in (x, omega arith, ap (λ y. y ∷ []) (sym e), λ s. refl))
 
+-- a 16-bit number at the front of the bytes left
+pub two-bytes : (a b : ℕ) (l : List ℕ) (s : ℕ) → read-uint16 (a ∷ b ∷ l) s ≡ success (a * 256 + b) l (s + 2)
+unfolding read-uint16 read-uint _>>=_ return
+two-bytes a b l s = let e : (0 * 256 + a) * 256 + b ≡ a * 256 + b = omega arith in rw (read-fits 2 (a ∷ b ∷ l) s (omega arith), e) refl
+
 pub uint16-exact : Exact read-uint16 (λ x. x < 65536) write-uint16 itself
 unfolding read-uint16 write-uint16
 uint16-exact = revalue (λ x. x < 65536) write-uint16 itself (uint-exact 2) (λ x o. (x, omega arith, refl, λ s. refl)) (λ x o. (x, omega arith, refl, λ s. refl))

@@ -100,7 +100,7 @@ pairs-numbered ps =
 
 keys-numbered : (ks : List EncryptedDataKey) → Numbered size-refusals (keys-checks ks)
 unfolding size-refusals keys-checks
-keys-numbered ks = check-numbered 27 refl (check-numbered 27 refl (each-numbered key-checks (λ done k. check-numbered 16 refl none-numbered) [] ks))
+keys-numbered ks = check-numbered 27 refl (check-numbered 27 refl (check-numbered 38 refl (each-numbered key-checks (λ done k. check-numbered 16 refl none-numbered) [] ks)))
 
 body-numbered : (b : BodyToWrite) → Numbered size-refusals (writing-header-body b .checks)
 unfolding size-refusals writing-header-body body-checks

@@ -12,19 +12,14 @@ use Rattle.format.specs.Shared.{by}
 use Rattle.format.specs.Fields.{PairAt, HeaderBody}
 use Rattle.format.specs.Context.{Mode, tolerant, strict, read-next-aad-pair, read-aad-by, read-aad, read-aad-of, read-aad-section, mark, with-mark}
 use Rattle.format.specs.Keys.{Max}
-use Rattle.format.specs.Body.{Which, tests-frames, Opening, read-opening, Request, request, after-context, after-opening, read-body, read-header-body, write-opening-of}
+use Rattle.format.specs.Body.{Which, tests-frames, Opening, read-opening, Request, request, after-keys, after-context, after-opening, read-body, read-header-body, write-opening-of}
 use Rattle.format.specs.Lent.{bytes-at, table-after, pair-table-after, key-table-after, pair-numbers, key-numbers}
 use Rattle.format.specs.Demand3.{old-empty, reached-old, reaches-old, Sentence2}
 use Rattle.format.proofs.Tests.{is-eqb, eqb-is, neqb-is}
 use Rattle.format.proofs.Exact.{Took, held-fits, enclosed-fits, enclosed-short}
-use Rattle.format.proofs.Serialize.{read-fits, read-short, length-uint16}
+use Rattle.format.proofs.Serialize.{read-short, two-bytes, length-uint16}
 use Rattle.format.proofs.Ends.{Top, TopOk, Rest, RestOk, top-bytes, top-at, v1-of, opening-exact}
 use Rattle.format.proofs.Messages.{accepted-took, rest-is, cases, operation-here, bytes-drop}
-
--- a 16-bit number at the front of the bytes left
-two-bytes : (a b : ℕ) (l : List ℕ) (s : ℕ) → read-uint16 (a ∷ b ∷ l) s ≡ success (a * 256 + b) l (s + 2)
-unfolding read-uint16 read-uint _>>=_ return
-two-bytes a b l s = let e : (0 * 256 + a) * 256 + b ≡ a * 256 + b = omega arith in rw (read-fits 2 (a ∷ b ∷ l) s (omega arith), e) refl
 
 too-short : (l : List ℕ) (s : ℕ) → length l < 2 → read-uint16 l s ≡ more-needed (s + 2)
 unfolding read-uint16 read-uint _>>=_
@@ -199,7 +194,7 @@ module _ (which : Which) (max : Max) (pairRoom keyRoom : ℕ) (m : List ℕ) (s 
   asks mode = request which mode (tests-frames which) max pairRoom keyRoom
 
   strict-after : (o : Opening) (l : List ℕ) (t : ℕ) → after-opening (asks strict) o l t ≡ cond (old-empty l) (error 21) (after-opening (asks tolerant) o l t)
-  unfolding after-opening after-context with-mark _>>=_ Alike
+  unfolding after-opening after-context after-keys with-mark _>>=_ Alike
   strict-after o l t =
       ap (λ x. go-on (go-on x (mark t)) (after-context (asks tolerant) o)) (strict-section l t)
       ∙ ap (λ x. go-on x (after-context (asks tolerant) o)) (go-on-cond (old-empty l) 21 (read-aad-section tolerant l t) (mark t))

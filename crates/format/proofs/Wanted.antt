@@ -13,7 +13,7 @@ use Rattle.format.specs.Fields.{PairAt}
 use Rattle.format.specs.Context.{Mode, tolerant, read-text, read-aad-pair, read-next-aad-pair, read-aad-by, read-aad, read-aad-of, read-aad-section, ContextAt, mark, with-mark, read-aad-section-into, look-up, find-value}
 use Rattle.format.specs.OnlyAuthenticated.{fitting, write-only-authenticated}
 use Rattle.format.specs.Keys.{Max, read-encrypted-data-key, read-encrypted-data-keys-section, read-encrypted-data-keys-section-into}
-use Rattle.format.specs.Body.{Which, read-opening-of, read-opening, read-closing-of, read-closing, Opening, Request, after-context, after-opening, read-body}
+use Rattle.format.specs.Body.{Which, read-opening-of, read-opening, read-closing-of, read-closing, Opening, Request, after-keys, after-context, after-opening, read-body}
 use Rattle.format.specs.Auth.{read-header-auth-tag-of, read-header-auth-tag}
 use Rattle.format.specs.Refusals.{WantsWithin, Nearness}
 use Rattle.format.proofs.Frames.{frames-into-wants}
@@ -47,7 +47,7 @@ unfolding read-aad-of
 of-wants mode true n h = return-wants _
 of-wants mode false n h = enclosed-wants n 14 (read-aad mode n) h (aad-wants mode n)
 
-section-wants : (mode : Mode) → Header Any (read-aad-section mode)
+pub section-wants : (mode : Mode) → Header Any (read-aad-section mode)
 unfolding read-aad-section
 section-wants mode = bind-wants uint16-wants (λ n g. of-wants mode (eqb n 0) n g)
 
@@ -80,7 +80,7 @@ key-wants = bind-wants (text-wants no-end 16) (λ p g. bind-wants (entry-wants n
 
 keys-wants : (max : Max) → Header Any (read-encrypted-data-keys-section max)
 unfolding read-encrypted-data-keys-section
-keys-wants max = bind-wants uint16-wants (λ count g. then-wants (test-wants 15 _) (repeat-wants count (λ acc. key-wants) []))
+keys-wants max = bind-wants uint16-wants (λ count g. then-wants (test-wants 38 _) (then-wants (test-wants 15 _) (repeat-wants count (λ acc. key-wants) [])))
 
 keys-into-wants : (max : Max) (room : ℕ) → Header Any (read-encrypted-data-keys-section-into max room)
 unfolding read-encrypted-data-keys-section-into
@@ -120,12 +120,12 @@ unfolding read-closing
 closing-wants v1 = bind-wants content-wants (λ c g. closing-of-wants v1 c)
 
 after-context-wants : (q : Request) (o : Opening) (x : ContextAt) → Header Any (after-context q o x)
-unfolding after-context
+unfolding after-context after-keys
 after-context-wants q o x =
     bind-wants (keys-wants (q .max)) (λ ks g. bind-wants (closing-wants (eqb (o .version) 1)) (λ c g.
     then-wants (test-wants 20 _) (then-wants (test-wants 22 _) (then-wants (test-wants 23 _) (return-wants _)))))
 
-marked-wants : {section : Reader (List PairAt)} → Header Any section → Header Any (with-mark section)
+pub marked-wants : {section : Reader (List PairAt)} → Header Any section → Header Any (with-mark section)
 unfolding with-mark
 marked-wants {section} h = record { near = λ l s hb. goes-on {b = 65536} Any Any (mark s) (λ ps g. record { near = λ l t hb. (tt, hb, refl) }) (s + length l) (section l s) (h .near l s hb) }
 

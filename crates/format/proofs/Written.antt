@@ -34,7 +34,7 @@ mark-fits the-old [] = refl
 mark-fits the-old (p ∷ ps) = refl
 
 remark : {form : Form} (form′ : Form) (f : Fields) → Good form f → fits-form form′ (length (f .pairs)) ≡ true → Good form′ f
-remark form′ f g h = record { top = g .top; few-pairs = g .few-pairs; pairs = g .pairs; t33 = h; few-keys = g .few-keys; keys = g .keys; end = g .end; t20 = g .t20 }
+remark form′ f g h = record { top = g .top; few-pairs = g .few-pairs; pairs = g .pairs; t33 = h; keys = g .keys; end = g .end; t20 = g .t20 }
 
 empty-today : section-in today [] ≡ 0x00 ∷ 0x00 ∷ []
 unfolding write-aad-section write-uint16

@@ -97,14 +97,16 @@ pub record Request : Type 0 where
   pub keyRoom : ℕ
   pub frames : Bool
 
-unfoldable pub after-context : Request → Opening → ContextAt → Reader HeaderBody
-after-context q o x = do
-  ks ← read-encrypted-data-keys-section (q .max)
+unfoldable pub after-keys : Request → Opening → ContextAt → List EncryptedDataKeyAt → Reader HeaderBody
+after-keys q o x ks = do
   c ← read-closing (eqb (o .version) 1)
   test 20 (not (q .frames) || frame-fits (c .contentType) (c .frameLength))
   test 22 (leb (4 * length (x .pairs)) (q .pairRoom))
   test 23 (leb (6 * length ks) (q .keyRoom))
   return (whole o x ks c)
+
+unfoldable pub after-context : Request → Opening → ContextAt → Reader HeaderBody
+after-context q o x = read-encrypted-data-keys-section (q .max) >>= after-keys q o x
 
 unfoldable pub after-opening : Request → Opening → Reader HeaderBody
 after-opening q o = with-mark (read-aad-section (q .mode)) >>= after-context q o

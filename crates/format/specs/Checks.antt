@@ -51,7 +51,7 @@ pairs-checks ps = count-checks (length ps) (images pair-parts ps) ++ (each pair-
 
 -- write a key section, without 26 and 28
 unfoldable pub keys-checks : List EncryptedDataKey → List Check
-keys-checks ks = count-checks (length ks) (images key-parts ks) ++ each key-checks [] ks
+keys-checks ks = count-checks (length ks) (images key-parts ks) ++ (check 38 (not (eqb (length ks) 0)) ∷ each key-checks [] ks)
 
 -- 33: a record marked old has a pair
 abbrev pub fits-form : Form → ℕ → Bool

@@ -1,7 +1,7 @@
 -- Demand 3, sentence by sentence, of the definitions that the contracts cite. It is proved in proofs/Demand3. Assumes nothing.
 use mathlib.Core.Path.{_≡_}
 use mathlib.Core.Bool.{Bool, true, false, cond}
-use mathlib.Core.Option.{none}
+use mathlib.Core.Option.{none, some}
 use mathlib.Core.List.{List, [], _∷_, _++_, List·Memᴰ}
 use Prim.Native.Nat.{ℕ, _+_, _*_, _≤_, _<_}
 use lib.ListN.{length, drop}
@@ -10,9 +10,9 @@ use Rattle.format.specs.Serialize.{Bytes, Part, images, same-bytes}
 use Rattle.format.specs.Shared.{by}
 use Rattle.format.specs.Fields.{Form, today, old, Pair, PairAt, Fields, HeaderBody, fields-of, pair-places, key-places}
 use Rattle.format.specs.Context.{Mode, tolerant, strict, read-aad-section, find-value}
-use Rattle.format.specs.Keys.{Max, within}
+use Rattle.format.specs.Keys.{Max, within, read-encrypted-data-keys-section-into}
 use Rattle.format.specs.Body.{Which, either, v1-only, v2-only, Opening, read-opening, request, read-header-body, read-header-body-untested, image}
-use Rattle.format.specs.Checks.{Accepts, first}
+use Rattle.format.specs.Checks.{Accepts, first, keys-checks, body-checks}
 use Rattle.format.specs.First.{FirstApplies, operation-list, FirstRefusal, body-list}
 use Rattle.format.specs.Places.{body-here, body-end}
 use Rattle.format.specs.Lent.{bytes-at, filled, table-checks, BodyToWrite, fields-to-write, writing-header-body, written, output-after, pair-table-after, key-table-after}
@@ -155,6 +155,34 @@ pub record Sentence4 (w : BodyToWrite) (out : List ℕ) : Type 0 where
       → (b : HeaderBody) × (operation (read-header-body either tolerant max pairRoom keyRoom) (output-after (writing-header-body w) out) 0 ≡ accepted b n)
       × Gives (output-after (writing-header-body w) out) b (fields-to-write w) × (b .form ≡ w .form)
 
+-- FIELDS WITHOUT A KEY are accepted by neither side, so the rule about two writers speaks of fields with a key. Where nothing but a key is missing,
+-- both sides say so: of fields that a writer accepts, less their keys, 38 is what it answers, and what the reader answers to their bytes.
+abbrev pub without-keys : Fields → Fields
+without-keys f =
+    record {
+      version = f .version;
+      messageType = f .messageType;
+      suite = f .suite;
+      messageId = f .messageId;
+      pairs = f .pairs;
+      keys = [];
+      contentType = f .contentType;
+      headerIvLength = f .headerIvLength;
+      frameLength = f .frameLength;
+      suiteData = f .suiteData;
+    }
+
+pub record NoKeys : Type 0 where
+  pub no-writer : (form : Form) (f : Fields) → f .keys ≡ [] → Accepts form f → ⊥
+  pub no-reader : (which : Which) (mode : Mode) (max : Max) (pairRoom keyRoom : ℕ) (m : List ℕ) (s : ℕ) → Bytes m
+      → (b : HeaderBody) (t : ℕ) → operation (read-header-body which mode max pairRoom keyRoom) m s ≡ accepted b t → b .keys ≡ [] → ⊥
+  pub writer-says : (w : Writer) (f : Fields) → Accepts (mark-by w (f .pairs)) f → first (body-checks [] [] (mark-by w (f .pairs)) (without-keys f)) ≡ some 38
+  pub reader-says : (w : Writer) (f : Fields) → Accepts (mark-by w (f .pairs)) f → (max : Max) (pairRoom keyRoom : ℕ) (m : List ℕ) (s : ℕ) (after : List ℕ)
+      → length m ≤ 4294967295 → drop s m ≡ image-by w (without-keys f) ++ after → operation (read-header-body either tolerant max pairRoom keyRoom) m s ≡ refused 38 0
+  -- and the same of a key section alone
+  pub no-section : (max : Max) (room : ℕ) (m : List ℕ) (s t : ℕ) → Bytes m → operation (read-encrypted-data-keys-section-into max room) m s ≡ accepted [] t → ⊥
+  pub section-says : first (keys-checks []) ≡ some 38
+
 -- FIND answers the value of the one pair with that key, and 29 exactly when no pair has it.
 pub data Has (k : List ℕ) : List PairAt → Type 0 where
   here : {p : PairAt} {ps : List PairAt} → k ≡ p .key .bytes → Has k (p ∷ ps)
@@ -181,4 +209,5 @@ pub record Demand3 : Type 0 where
   pub marks : (which : Which) (mode : Mode) (max : Max) (pairRoom keyRoom : ℕ) (m : List ℕ) (s : ℕ) → Bytes m
       → (b : HeaderBody) (t : ℕ) → operation (read-header-body which mode max pairRoom keyRoom) m s ≡ accepted b t → Marks which mode m s b
   pub sentence-4 : (w : BodyToWrite) (out : List ℕ) → Sentence4 w out
+  pub no-keys : NoKeys
   pub finds : (k m : List ℕ) (s : ℕ) → Bytes m → Finds k m s

@@ -114,6 +114,7 @@ unfoldable pub keys-list : Max → List ℕ → ℕ → List Line
 keys-list max m s =
     let count = number16 m s in
     (lacks 2 m s
+    ∷ when 38 (eqb count 0)
     ∷ unless 15 (within count max)
     ∷ each-list (λ done. key-list) key-here key-end count [] m (s + 2))
 

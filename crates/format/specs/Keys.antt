@@ -1,8 +1,8 @@
 -- EncryptedDataKeys.dfy: the key section, read and written. Assumes nothing.
-use mathlib.Core.Bool.{Bool, true}
+use mathlib.Core.Bool.{Bool, true, not}
 use mathlib.Core.List.{List, [], _∷_, _++_}
 use Prim.Native.Nat.{ℕ, _*_}
-use lib.Dec.{leb}
+use lib.Dec.{leb, eqb}
 use lib.ListN.{length}
 use Rattle.format.specs.Read.{Reader, _>>=_, _>>_, return, test, no-end, repeat}
 use Rattle.format.specs.Serialize.{read-uint16, write-uint16, read-short-length-seq, write-short-length-seq, images}
@@ -38,10 +38,11 @@ read-encrypted-data-key = do
   cipher ← read-short-length-seq no-end
   return (record { keyProviderId = provider; keyProviderInfo = info; ciphertext = cipher })
 
--- ReadEncryptedDataKeysSection: the maximum is tested before any key is read
+-- ReadEncryptedDataKeysSection: the count is tested before any key is read. 38: there is no key
 unfoldable pub read-encrypted-data-keys-section : Max → Reader (List EncryptedDataKeyAt)
 read-encrypted-data-keys-section max = do
   count ← read-uint16
+  test 38 (not (eqb count 0))
   test 15 (within count max)
   repeat count (λ acc. read-encrypted-data-key) []
 

@@ -13,15 +13,15 @@ use Rattle.format.specs.Read.{at, addressable}
 use Rattle.format.specs.Serialize.{read, read-at, images, every, number, write-uint16, write-uint32, same-bytes}
 use Rattle.format.specs.Utf8.{Range, has, rows, valid-utf8-seq}
 use Rattle.format.specs.Shared.{by, one-or-two, SuiteRow, row, suites, suite-version, known, frame-fits}
-use Rattle.format.specs.Fields.{Form, old, Pair, PairAt, pair-of, pair-places, EncryptedDataKey, EncryptedDataKeyAt, key-of, key-places}
+use Rattle.format.specs.Fields.{Form, old, Pair, PairAt, pair-of, pair-places, EncryptedDataKey, EncryptedDataKeyAt, key-of, key-places, key-parts}
 use Rattle.format.specs.Context.{seen, linear-length, write-aad-pairs}
 use Rattle.format.specs.Keys.{Max, no-max, at-most, within, write-encrypted-data-keys}
 use Rattle.format.specs.Body.{Which, either, tests-frames}
-use Rattle.format.specs.Checks.{Check, first, fits-form}
+use Rattle.format.specs.Checks.{Check, first, count-checks, keys-checks, fits-form}
 use Rattle.format.specs.Lent.{bytes-at, filled, pair-numbers, key-numbers, frame-numbers, items, pair-in, key-in, frame-in, table-checks}
 use Rattle.format.specs.Frames.{FrameAt, frame-of, frame-places}
 use Rattle.format.specs.Places.{number8}
-use Rattle.format.specs.First.{NoneApplies, operation-list, opening-list}
+use Rattle.format.specs.First.{Line, NoneApplies, operation-list, opening-list, keys-list}
 use Rattle.format.specs.Demand3.{Held, Each, reaches-old, Has}
 use Rattle.format.specs.Characters.{Characters}
 use Rattle.format.specs.Lengths.{JustWhere, Lengths}
@@ -64,6 +64,12 @@ pub record FirstFails (checks : List Check) (number : ℕ) : Type 0 where
 abbrev pub number-of : SuiteRow → ℕ
 number-of r = r .number
 
+abbrev pub line-number : Line → ℕ
+line-number x = x .number
+
+abbrev pub check-number : Check → ℕ
+check-number c = c .number
+
 pub record Pinned : Type 0 where
   -- 1
   pub addresses : (m : List ℕ) (s : ℕ) → Decides (addressable m s) ((length m ≤ 4294967295) × (s ≤ 4294967295))
@@ -103,6 +109,12 @@ pub record Pinned : Type 0 where
   -- a maximum is passed by a count above it
   pub maximum : (n max : ℕ) → Decides (within n (at-most max)) (n ≤ max)
   pub no-maximum : (n : ℕ) → within n no-max ≡ true
+  -- a count of 0 passes no maximum, and is neither too many keys nor has a part, so 38 never applies together with 15 or the keys' 27. Their order,
+  -- which no answer shows, is the request's: 38 right after the count and before 15, and after 27
+  pub none-within : (max : Max) → within 0 max ≡ true
+  pub none-counted : first (count-checks 0 (images key-parts [])) ≡ option.none
+  pub in-reading : (max : Max) (m : List ℕ) (s : ℕ) → take 3 (map line-number (keys-list max m s)) ≡ (2 ∷ 38 ∷ 15 ∷ [])
+  pub in-writing : (ks : List EncryptedDataKey) → take 3 (map check-number (keys-checks ks)) ≡ (27 ∷ 27 ∷ 38 ∷ [])
   -- a writer refuses by the first of its checks that fails
   pub first-check : (checks : List Check) (k : ℕ) → JustWhere (first checks ≡ option.some k) (FirstFails checks k)
   -- 26

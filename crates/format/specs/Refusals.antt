@@ -28,8 +28,12 @@ find-refusals = 1 ∷ 2 ∷ (section-refusals tolerant ++ (29 ∷ []))
 unfoldable pub only-authenticated-refusals : List ℕ
 only-authenticated-refusals = 1 ∷ 2 ∷ (section-refusals tolerant ++ (31 ∷ 28 ∷ []))
 
+-- of a key section
+unfoldable pub key-section-refusals : List ℕ
+key-section-refusals = 38 ∷ 15 ∷ 16 ∷ []
+
 unfoldable pub keys-refusals : List ℕ
-keys-refusals = 1 ∷ 2 ∷ 15 ∷ 16 ∷ 23 ∷ []
+keys-refusals = 1 ∷ 2 ∷ (key-section-refusals ++ (23 ∷ []))
 
 -- only a reader of one version answers 4, and one of version 2 alone never 5
 unfoldable pub opening-refusals : Which → List ℕ
@@ -49,10 +53,10 @@ frame-refusals true = 20 ∷ []
 frame-refusals false = []
 
 unfoldable pub closing-refusals : Which → Bool → List ℕ
-closing-refusals which frames = 15 ∷ 16 ∷ 17 ∷ (reserved-refusals which ++ (frame-refusals frames ++ (22 ∷ 23 ∷ [])))
+closing-refusals which frames = 17 ∷ (reserved-refusals which ++ (frame-refusals frames ++ (22 ∷ 23 ∷ [])))
 
 unfoldable pub body-refusals : Request → List ℕ
-body-refusals q = 1 ∷ 2 ∷ (opening-refusals (q .which) ++ (section-refusals (q .mode) ++ closing-refusals (q .which) (q .frames)))
+body-refusals q = 1 ∷ 2 ∷ (opening-refusals (q .which) ++ (section-refusals (q .mode) ++ (key-section-refusals ++ closing-refusals (q .which) (q .frames))))
 
 unfoldable pub auth-refusals : List ℕ
 auth-refusals = 1 ∷ 2 ∷ 6 ∷ []

@@ -1,17 +1,19 @@
--- EncryptionContext.dfy as its function bodies read: the source holds no part of a context section to the section's end, and tests what
--- the pairs take instead. What documents 01 and 02 add to the source, the strict mode, the tables, the numbers and the mark, is in both readings, so that
--- they differ in nothing else. It is kept to be compared with (specs/SourceEquality); no contract cites it. Assumes nothing.
+-- EncryptionContext.dfy and EncryptedDataKeys.dfy as their function bodies read: the source holds no part of a context section to the section's
+-- end, and tests what the pairs take instead; and it reads a key count of 0. What documents 01 and 02 add to the source, the strict mode, the tables, the
+-- numbers and the mark, is in both readings, so that they differ in nothing else. It is kept to be compared with (specs/SourceEquality); no contract
+-- cites it. Assumes nothing.
 use mathlib.Core.Bool.{Bool, true, false, not}
 use mathlib.Core.List.{List, [], map}
 use Prim.Native.Nat.{ℕ, _+_, _*_}
 use lib.Dec.{leb, ltb, eqb}
 use lib.ListN.{length}
-use Rattle.format.specs.Read.{Reader, _>>=_, _>>_, return, test, no-end, enclosed}
+use Rattle.format.specs.Read.{Reader, _>>=_, _>>_, return, test, no-end, repeat, enclosed}
 use Rattle.format.specs.Serialize.{Part, read-uint16}
-use Rattle.format.specs.Fields.{PairAt, pair-of, HeaderBody}
-use Rattle.format.specs.Context.{seen, pair-length, linear-length, pairs-limit, Mode, tolerant, read-aad-pair, read-aad-by, with-mark, look-up}
+use Rattle.format.specs.Fields.{PairAt, pair-of, EncryptedDataKeyAt, HeaderBody}
+use Rattle.format.specs.Context.{seen, pair-length, linear-length, pairs-limit, Mode, tolerant, read-aad-pair, read-aad-by, ContextAt, with-mark, look-up}
+use Rattle.format.specs.Keys.{Max, within, read-encrypted-data-key}
 use Rattle.format.specs.OnlyAuthenticated.{only-authenticated, in-twos, fitting}
-use Rattle.format.specs.Body.{Opening, read-opening, Request, after-context}
+use Rattle.format.specs.Body.{Opening, read-opening, Request, after-keys}
 
 -- a step of ReadAADPairs, with 13: the pairs so far take 65,534 bytes or more
 unfoldable pub source-read-next-aad-pair : List PairAt → Reader PairAt
@@ -50,8 +52,25 @@ source-write-only-authenticated text required room = do
   test 31 (in-twos text required)
   fitting room (only-authenticated text required ps)
 
+-- ReadEncryptedDataKeysSection
+unfoldable pub source-read-encrypted-data-keys-section : Max → Reader (List EncryptedDataKeyAt)
+source-read-encrypted-data-keys-section max = do
+  count ← read-uint16
+  test 15 (within count max)
+  repeat count (λ acc. read-encrypted-data-key) []
+
+unfoldable pub source-read-encrypted-data-keys-section-into : Max → ℕ → Reader (List EncryptedDataKeyAt)
+source-read-encrypted-data-keys-section-into max room = do
+  ks ← source-read-encrypted-data-keys-section max
+  test 23 (leb (6 * length ks) room)
+  return ks
+
+-- a body with both
+unfoldable pub source-after-context : Request → Opening → ContextAt → Reader HeaderBody
+source-after-context q o x = source-read-encrypted-data-keys-section (q .max) >>= after-keys q o x
+
 unfoldable pub source-after-opening : Request → Opening → Reader HeaderBody
-source-after-opening q o = with-mark (source-read-aad-section (q .mode)) >>= after-context q o
+source-after-opening q o = with-mark (source-read-aad-section (q .mode)) >>= source-after-context q o
 
 unfoldable pub source-read-body : Request → Reader HeaderBody
 source-read-body q = read-opening (q .which) >>= source-after-opening q

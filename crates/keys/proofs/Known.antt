@@ -54,5 +54,6 @@ unfolding read-encrypted-data-keys-section
 section-known max m start ks t e =
     let x = un-bind _ uint16-tidy m start ks t e in
     let c = uint16-known m start (x .0) (x .1) (x .2) in
-    let y = un-test 15 _ _ m (x .1) ks t (x .3) in
-    all-hold key-kind m (x .0) (x .1) (start + 2) (c .tail) (omega arith) ks t (y .1)
+    let y = un-test 38 _ _ m (x .1) ks t (x .3) in
+    let z = un-test 15 _ _ m (x .1) ks t (y .1) in
+    all-hold key-kind m (x .0) (x .1) (start + 2) (c .tail) (omega arith) ks t (z .1)

@@ -1,12 +1,13 @@
 -- The ways out of the functions that read keys, one law each. Assumes nothing.
 use mathlib.Core.Path.{_≡_, sym, ap, _∙_}
-use mathlib.Core.Bool.{Bool, true, false}
+use mathlib.Core.Bool.{Bool, true, false, not}
 use mathlib.Core.List.{List, []}
 use Prim.Native.Nat.{ℕ, _+_, _≤_, _<_}
 use native.Mathlib.Omega.{arith}
 use lib.Dec.{leb}
 use lib.ListN.{length}
-use Rattle.format.specs.Read.{no-end, accepted, at, repeat}
+use borrow.Author.Tests.{eq-eqb, ne-eqb}
+use Rattle.format.specs.Read.{_>>_, test, no-end, accepted, at, repeat}
 use Rattle.format.specs.Serialize.{read-uint16, read-short-length-seq}
 use Rattle.format.specs.Context.{read-text}
 use Rattle.format.specs.Keys.{within, read-encrypted-data-key, read-encrypted-data-keys-section}
@@ -84,18 +85,25 @@ module _ (max : Max) (m : List ℕ) (s : ℕ) (x : Number) (xIs : x ≡ number-o
   unfolding read-encrypted-data-keys-section
   keys-none q b a f = rw (f, b, stop _ uint16-tidy m s _ _ (number-no (at read-uint16 m s) x xIs q b))
 
-  module _ (count first : ℕ) (b : x ≡ number.Is count first) (d : Bool) (dIs : d ≡ within count (max-of max)) where
+  module _ (count first : ℕ) (b : x ≡ number.Is count first) where
     c : at read-uint16 m s ≡ accepted count first
     c = number-got (at read-uint16 m s) x xIs count first b
 
-    pub keys-15 : d ≡ false → (r : KeysAnswer) → r ≡ Refused (because 15 0) → r ≡ keys-of (at (read-encrypted-data-keys-section (max-of max)) m s)
+    pub keys-38 : count ≡ 0 → (r : KeysAnswer) → r ≡ Refused (because 38 0) → r ≡ keys-of (at (read-encrypted-data-keys-section (max-of max)) m s)
     unfolding read-encrypted-data-keys-section
-    keys-15 e r f = f ∙ sym (rw (go _ uint16-tidy m s count first c, fail 15 _ _ m first (sym dIs ∙ e)))
+    keys-38 e r f = f ∙ sym (rw (go _ uint16-tidy m s count first c, fail 38 _ _ m first (ap not (eq-eqb _ _ e))))
+
+  module _ (count first : ℕ) (b : x ≡ number.Is count first) (some : count ≡ 0 → ⊥) (d : Bool) (dIs : d ≡ within count (max-of max)) where
+    counted : at (read-encrypted-data-keys-section (max-of max)) m s ≡ at (test 15 (within count (max-of max)) >> repeat count any-key []) m first
+    unfolding read-encrypted-data-keys-section
+    counted = go _ uint16-tidy m s count first (c count first b) ∙ pass 38 _ _ m first (ap not (ne-eqb _ _ some))
+
+    pub keys-15 : d ≡ false → (r : KeysAnswer) → r ≡ Refused (because 15 0) → r ≡ keys-of (at (read-encrypted-data-keys-section (max-of max)) m s)
+    keys-15 e r f = f ∙ sym (rw (counted, fail 15 _ _ m first (sym dIs ∙ e)))
 
     module _ (dt : d ≡ true) (e : Next) (eIs : e ≡ next-of (at (repeat count any-key []) m first)) where
       all : at (read-encrypted-data-keys-section (max-of max)) m s ≡ at (repeat count any-key []) m first
-      unfolding read-encrypted-data-keys-section
-      all = go _ uint16-tidy m s count first c ∙ pass 15 _ _ m first (sym dIs ∙ dt)
+      all = counted ∙ pass 15 _ _ m first (sym dIs ∙ dt)
 
       pub keys-stop : (q : Refusal) → e ≡ next.Not q → (a : Refusal) → a ≡ why-next e → Refused a ≡ keys-of (at (read-encrypted-data-keys-section (max-of max)) m s)
       keys-stop q g a f = rw (f, g, all, next-no (at (repeat count any-key []) m first) e eIs q g)
@@ -103,6 +111,6 @@ module _ (max : Max) (m : List ℕ) (s : ℕ) (x : Number) (xIs : x ≡ number-o
       pub keys-whole : (t : ℕ) → e ≡ next.At t → (r : KeysAnswer) → r ≡ Accepted count t → r ≡ keys-of (at (read-encrypted-data-keys-section (max-of max)) m s)
       keys-whole t g r f =
           let w = next-got (at (repeat count any-key []) m first) e eIs t g in
-          let y = uint16-known m s count first c in
+          let y = uint16-known m s count first (c count first b) in
           let long = all-length key-kind m count first (omega arith) (w .item) t (w .is) in
           f ∙ ap (λ (i : ℕ). Accepted i t) (sym long) ∙ sym (ap keys-of (all ∙ w .is))

@@ -95,6 +95,9 @@ pub fn keys_at(m: &[u8], start: u64, max: Max) -> KeysAnswer
     else {
         return KeysAnswer::Refused(x.refusal());
     };
+    if count == 0 {
+        return refused(refusals::NO_ENCRYPTED_DATA_KEY);
+    }
     if within(max, count) {
         let e = read_keys(m, first, count);
         let Next::At(tail) = e else {

@@ -46,7 +46,7 @@ pub back-found : (o : Answer Part) (q : Refusal) → found-of o ≡ found.Refuse
 back-found (accepted ps t) q e = let z : _≡_ {A = ℕ} 0 1 = cc in absurd (omega arith)
 back-found (refused k p) q e = let z : because k p ≡ q = cc in rw (← z) refl
 
-back-keys : (o : Answer (List EncryptedDataKeyAt)) (q : Refusal) → keys-of o ≡ keys.Refused q → o ≡ refused (q .number) (q .position)
+pub back-keys : (o : Answer (List EncryptedDataKeyAt)) (q : Refusal) → keys-of o ≡ keys.Refused q → o ≡ refused (q .number) (q .position)
 back-keys (accepted ps t) q e = let z : _≡_ {A = ℕ} 0 1 = cc in absurd (omega arith)
 back-keys (refused k p) q e = let z : because k p ≡ q = cc in rw (← z) refl
 

@@ -30,7 +30,7 @@ module _ (c : Call) (o : Answer BodyRead) (call : Meets o c) where
   pub accepts : (b : BodyRead) (t : ℕ) → o ≡ accepted b t → Accepts c b t
   accepts b t e = record { answer = rw e at (call .answer); pairTable = rw e at (call .pairTable); keyTable = rw e at (call .keyTable) }
 
-  refuses : (k p : ℕ) → o ≡ refused k p → Refuses c k p
+  pub refuses : (k p : ℕ) → o ≡ refused k p → Refuses c k p
   refuses k p e = record { answer = rw e at (call .answer); pairTable = rw e at (call .pairTable); keyTable = rw e at (call .keyTable) }
 
 module _ (m : List ℕ) (c : Call) (b : BodyRead) (f : Fields) (t : ℕ) (given : Gives m b f) (call : Accepts c b t) where

@@ -113,3 +113,6 @@ pub const NO_FRAME: u8 = 36;
 
 // The content of a frame before the last is not exactly the frame length.
 pub const REGULAR_CONTENT_LENGTH: u8 = 37;
+
+// There is no encrypted data key.
+pub const NO_ENCRYPTED_DATA_KEY: u8 = 38;
