@@ -51,7 +51,7 @@
  * Names are those of the AWS Encryption SDK's message format: a header has an encryption context (pairs of key and value) and
  * encrypted data keys (key provider ID, key provider info, ciphertext); "key" alone is either, by where it stands. Pairs and keys
  * keep their order: no order is tested, and nothing is sorted, but for what bafirolen_write_only_authenticated writes. A header
- * may have no pair, and may have no key.
+ * may have no pair, and has at least one encrypted data key: one that has none is neither read nor written, but refused by 38.
  */
 #ifndef BAFIROLEN_H
 #define BAFIROLEN_H
@@ -68,9 +68,9 @@ extern "C" {
 
 /*
  * The version of these declarations, which grows by one with each change of them. bafirolen_version gives that of the archive:
- * where the two differ, the archive was made for another header file than this.
+ * where the two differ, the archive was made for another header file than this. A host of version 7 knows no refusal 38.
  */
-#define BAFIROLEN_VERSION 7
+#define BAFIROLEN_VERSION 8
 uint32_t bafirolen_version(void);
 
 /*
@@ -89,7 +89,7 @@ uint32_t bafirolen_version(void);
  * THE TWO CALLS. The header body at `start` in one number: 0 where it is accepted, else the refusal; and its position: the tail
  * where it is accepted, else 0 but for BAFIROLEN_REFUSED_SHORTAGE. It is read in either version, tolerantly, with no maximum and
  * with tables of 4,096 numbers, so at most 1,024 pairs and 682 keys.
- * Refuses: 1 2 3 5 6 7 32 8 9 10 11 12 14 16 17 18 19 20 22 23.
+ * Refuses: 1 2 3 5 6 7 32 8 9 10 11 12 14 38 16 17 18 19 20 22 23.
  * Stack: BAFIROLEN_STACK_LISTED.
  */
 uint32_t bafirolen_header_number(const uint8_t *message, size_t message_len, uint64_t start);
@@ -104,16 +104,15 @@ uint64_t bafirolen_header_position(const uint8_t *message, size_t message_len, u
  * Reads the header body at `start`.
  * which: BAFIROLEN_V1_ONLY; BAFIROLEN_V2_ONLY; any other number: BAFIROLEN_EITHER. Asking for one version leaves out the test of
  * the frame length (20): to have that test as well, ask for either version and then compare numbers.version.
- * mode: BAFIROLEN_TOLERANT; any other number: strict, which refuses an empty context in its old form, 00 02 00 00 in place of
- * 00 00.
- * has_max: BAFIROLEN_NO_MAX, and `max` is not looked at; any other number: at most `max` keys.
+ * mode: BAFIROLEN_TOLERANT; any other number: strict, which refuses an empty context in its old form, 00 02 00 00 for 00 00.
+ * has_max: BAFIROLEN_NO_MAX, and `max` is not looked at; any other number: at most `max` keys; at most 0 takes no body.
  * pairs, keys: accepted, they begin with four numbers for each pair and six for each key, in the order of the section. The numbers
  * after those are left as they were.
  * numbers.form says in which form an empty context was read, whichever version and mode were asked for; a strict reader never gives
  * BAFIROLEN_OLD.
- * Refuses: 1 2 3 4 5 6 7 32 8 21 9 10 11 12 14 15 16 17 18 19 20 22 23.
+ * Refuses: 1 2 3 4 5 6 7 32 8 21 9 10 11 12 14 38 15 16 17 18 19 20 22 23.
  * 4 only where one version is asked for; 5, 18 and 19 only of a message of version 1; 20 only where either version is asked for;
- * 21 only where strict.
+ * 21 only where strict; 38 as soon as the count of keys is read.
  * Stack: BAFIROLEN_STACK_READ.
  */
 BafirolenBody bafirolen_read_header_body(const uint8_t *message, size_t message_len, uint64_t start, uint32_t which, uint32_t mode,
@@ -131,7 +130,7 @@ BafirolenSection bafirolen_read_aad_section(const uint8_t *message, size_t messa
 
 /*
  * Reads the section of encrypted data keys at `start`; has_max, max and table as for bafirolen_read_header_body (`keys`).
- * Refuses: 1 2 15 16 23.
+ * Refuses: 1 2 38 15 16 23.
  * Stack: BAFIROLEN_STACK_KEYS.
  */
 BafirolenSection bafirolen_read_encrypted_data_keys_section(const uint8_t *message, size_t message_len, uint64_t start,
@@ -198,7 +197,8 @@ BafirolenWritten bafirolen_write_aad_section(const uint8_t *text, size_t text_le
 
 /*
  * Writes the section of the encrypted data keys in the table: 2 bytes, 6 for each key and its parts.
- * Refuses: 26 27 16 28.
+ * Refuses: 26 27 38 16 28.
+ * 38 where the table is empty.
  * Stack: BAFIROLEN_STACK_KEYS.
  */
 BafirolenWritten bafirolen_write_encrypted_data_keys_section(const uint8_t *text, size_t text_len, const uint32_t *keys,
@@ -218,8 +218,8 @@ BafirolenWritten bafirolen_write_header_auth_tag(uint32_t suite, const uint8_t *
  * takes 34 bytes in version 1 and 76 in version 2; where it has a pair or is marked old, 2 more; 4 for each pair, 6 for each key,
  * and their parts: bafirolen_header_body_len adds them up.
  * numbers.form: BAFIROLEN_TODAY, and an empty context is written 00 00; any other number: old, and it is written 00 02 00 00.
- * Refuses: 3 5 6 7 24 26 27 10 11 12 13 33 16 17 19 25 20 28.
- * 26 and 27 are tested of the pairs before 10, and of the keys after 33 and before 16; 33 only where the form is old.
+ * Refuses: 3 5 6 7 24 26 27 10 11 12 13 33 38 16 17 19 25 20 28.
+ * 26 and 27 are tested of the pairs before 10, of the keys after 33 and before 38; 33 only where the form is old, 38 without a key.
  * Stack: BAFIROLEN_STACK_WRITE.
  */
 BafirolenWritten bafirolen_write_header_body(BafirolenNumbers numbers, const uint8_t *message_id, size_t message_id_len,
@@ -233,8 +233,8 @@ BafirolenWritten bafirolen_write_header_body(BafirolenNumbers numbers, const uin
  * than 28 that the writer would, and whatever output the writer is then lent, it answers the same. Where there is none, the writer
  * answers 28 exactly where the output is shorter than `length`, and otherwise accepts and gives that length. Keys may share their
  * places, so that the length may be far above that of the text: up to 12.9 GB. Changes nothing.
- * Refuses: 3 5 6 7 24 26 27 10 11 12 13 33 16 17 19 25 20.
- * 26, 27 and 33 as for bafirolen_write_header_body.
+ * Refuses: 3 5 6 7 24 26 27 10 11 12 13 33 38 16 17 19 25 20.
+ * 26, 27, 33 and 38 as for bafirolen_write_header_body.
  * Stack: BAFIROLEN_STACK_WRITE.
  */
 BafirolenWritten bafirolen_header_body_len(BafirolenNumbers numbers, const uint8_t *message_id, size_t message_id_len,

@@ -116,7 +116,7 @@ typedef struct BafirolenBody {
     uint64_t messageIdStart; /* the place of the message ID's first byte */
     uint64_t messageIdLen;
     uint64_t pairCount; /* how many pairs of the encryption context */
-    uint64_t keyCount;  /* how many encrypted data keys */
+    uint64_t keyCount;  /* how many encrypted data keys; where the body is accepted, at least 1 */
     uint64_t suiteDataStart; /* the place of the suite data's first byte */
     uint64_t suiteDataLen;
     uint64_t tail; /* the authentication record begins here */

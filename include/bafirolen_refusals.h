@@ -24,7 +24,7 @@ enum BafirolenRefusal {
     BAFIROLEN_REFUSED_KEY_SEEN_BEFORE = 12,
     BAFIROLEN_REFUSED_PAIRS_TOO_LONG = 13, /* in writing alone */
     BAFIROLEN_REFUSED_CONTEXT_LENGTH = 14,
-    BAFIROLEN_REFUSED_TOO_MANY_KEYS = 15, /* encrypted data keys, as in 16 and 23 */
+    BAFIROLEN_REFUSED_TOO_MANY_KEYS = 15, /* encrypted data keys, as in 16, 23 and 38 */
     BAFIROLEN_REFUSED_PROVIDER_ID_NOT_UTF8 = 16,
     BAFIROLEN_REFUSED_CONTENT_TYPE = 17,
     BAFIROLEN_REFUSED_RESERVED_BYTES = 18,
@@ -46,7 +46,8 @@ enum BafirolenRefusal {
     BAFIROLEN_REFUSED_SEQUENCE_NUMBER = 34,  /* they run from 1 by one, the final frame's included */
     BAFIROLEN_REFUSED_FINAL_CONTENT_TOO_LONG = 35, /* in reading and in writing */
     BAFIROLEN_REFUSED_NO_FRAME = 36,               /* in writing alone, as 37 */
-    BAFIROLEN_REFUSED_REGULAR_CONTENT_LENGTH = 37
+    BAFIROLEN_REFUSED_REGULAR_CONTENT_LENGTH = 37,
+    BAFIROLEN_REFUSED_NO_ENCRYPTED_DATA_KEY = 38 /* in reading and in writing */
 };
 
 /* A refusal in words. Any other number has the words for unknown ones. */
@@ -91,6 +92,7 @@ static inline const char *bafirolen_refusal_text(uint64_t number)
         "content of the final frame longer than the frame length",
         "no frame to write",
         "content of a frame before the last not of the frame length",
+        "no encrypted data key",
     };
     return number < sizeof texts / sizeof *texts ? texts[number] : "unknown refusal";
 }

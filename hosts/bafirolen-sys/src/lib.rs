@@ -30,8 +30,8 @@ pub use records::{
 };
 
 /// The declarations here are those of an archive whose [`bafirolen_version`]
-/// answers this.
-pub const VERSION: u32 = 7;
+/// answers this. A host of version 7 knows no refusal 38.
+pub const VERSION: u32 = 8;
 
 extern "C" {
     /// Which declarations the archive was made for.
@@ -48,9 +48,9 @@ extern "C" {
         table_len: usize,
     ) -> BafirolenSection;
 
-    /// Reads the section of encrypted data keys at `start`. has_max 0: no
-    /// maximum; any other: at most `max` keys. The table is filled with six
-    /// numbers a key.
+    /// Reads the section of encrypted data keys at `start`, which has at least
+    /// one. has_max 0: no maximum; any other: at most `max` keys. The table is
+    /// filled with six numbers a key.
     pub fn bafirolen_read_encrypted_data_keys_section(
         m: *const u8,
         m_len: usize,
@@ -145,8 +145,8 @@ extern "C" {
         out_len: usize,
     ) -> BafirolenWritten;
 
-    /// Writes the section of the encrypted data keys at a table's places in
-    /// the text.
+    /// Writes the section of the encrypted data keys, at least one, at a
+    /// table's places in the text.
     pub fn bafirolen_write_encrypted_data_keys_section(
         text: *const u8,
         text_len: usize,

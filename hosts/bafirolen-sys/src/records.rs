@@ -75,7 +75,7 @@ pub struct BafirolenBody {
     pub message_id_len: u64,
     /// How many pairs the context has.
     pub pair_count: u64,
-    /// How many encrypted data keys there are.
+    /// How many encrypted data keys there are; of an accepted body, at least 1.
     pub key_count: u64,
     /// The place of the suite data's first byte; 0 in version 1.
     pub suite_data_start: u64,

@@ -72,7 +72,7 @@ impl<'m, 't> Body<'m, 't> {
         Pairs::new(self.message, self.pair_table())
     }
 
-    /// The encrypted data keys in their order.
+    /// The encrypted data keys in their order, at least one.
     #[inline]
     pub fn keys(&self) -> Keys<'m, 't> {
         Keys::new(self.message, self.key_table())
@@ -169,6 +169,8 @@ impl fmt::Debug for Body<'_, '_> {
 ///   11 [`ValueNotUtf8`](Refusal::ValueNotUtf8) and
 ///   12 [`KeySeenBefore`](Refusal::KeySeenBefore);
 /// - 14 [`ContextLength`](Refusal::ContextLength);
+/// - 38 [`NoEncryptedDataKey`](Refusal::NoEncryptedDataKey), as soon as the count
+///   of keys is read;
 /// - 15 [`TooManyKeys`](Refusal::TooManyKeys), if there is a maximum;
 /// - of each key 16 [`ProviderIdNotUtf8`](Refusal::ProviderIdNotUtf8);
 /// - 17 [`ContentType`](Refusal::ContentType);

@@ -19,9 +19,11 @@ use crate::{Draft, Refusal};
 ///
 /// # fn main() -> Result<(), Refusal> {
 /// let numbers = Numbers::version_1(0x0178, FRAMED, 4_096);
-/// let draft = Draft::new(numbers, &[7; 16]).with_tables(b"langcy", &[0, 4, 4, 2], &[]);
+/// let text = b"langcyp1a\xAA\xBB\xCC";
+/// let (pairs, keys) = ([0, 4, 4, 2], [6, 2, 8, 1, 9, 3]);
+/// let draft = Draft::new(numbers, &[7; 16]).with_tables(text, &pairs, &keys);
 /// let length = header_body_len(&draft)?;
-/// assert_eq!(length, 46);
+/// assert_eq!(length, 58);
 /// let mut out = vec![0; length];
 /// assert_eq!(write_header_body(&draft, &mut out), Ok(length));
 /// assert_eq!(write_header_body(&draft, &mut out[1..]), Err(Refusal::OutputTooShort));
@@ -29,6 +31,8 @@ use crate::{Draft, Refusal};
 /// // What no output would change is refused already.
 /// let draft = Draft::new(numbers, &[7; 15]);
 /// assert_eq!(header_body_len(&draft), Err(Refusal::IdLength));
+/// let draft = Draft::new(numbers, &[7; 16]);
+/// assert_eq!(header_body_len(&draft), Err(Refusal::NoEncryptedDataKey));
 /// # Ok(())
 /// # }
 /// ```
@@ -48,7 +52,8 @@ use crate::{Draft, Refusal};
 ///   12 [`KeySeenBefore`](Refusal::KeySeenBefore), then
 ///   13 [`PairsTooLong`](Refusal::PairsTooLong);
 /// - 33 [`PairInOldForm`](Refusal::PairInOldForm), if the form is old;
-/// - of the keys 26 and 27 likewise, and of each
+/// - of the keys 26 and 27 likewise,
+///   38 [`NoEncryptedDataKey`](Refusal::NoEncryptedDataKey), and of each
 ///   16 [`ProviderIdNotUtf8`](Refusal::ProviderIdNotUtf8);
 /// - 17 [`ContentType`](Refusal::ContentType);
 /// - 19 [`IvLength`](Refusal::IvLength);
@@ -87,9 +92,11 @@ pub fn header_body_len(draft: &Draft<'_>) -> Result<usize, Refusal> {
 ///
 /// # fn main() -> Result<(), bafirolen::Refusal> {
 /// let numbers = Numbers::version_2(0x0478, NON_FRAMED, 0);
-/// let draft = Draft::new(numbers, &[7; 32]).with_suite_data(&[8; 32]);
+/// let draft = Draft::new(numbers, &[7; 32])
+///     .with_suite_data(&[8; 32])
+///     .with_tables(b"p1a\xAA\xBB\xCC", &[], &[0, 2, 2, 1, 3, 3]); // a key, no pair
 /// let body = header_body_to_vec(&draft)?;
-/// assert_eq!(body.len(), 76);
+/// assert_eq!(body.len(), 88);
 /// assert_eq!(bafirolen::header_number(&body, 0), 0);
 /// # Ok(())
 /// # }

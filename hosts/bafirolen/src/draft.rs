@@ -95,7 +95,9 @@ impl Numbers {
 }
 
 /// What a body is written from. By default all of it is empty or 0, which the
-/// writer refuses.
+/// writer refuses. A draft may be without pairs, and needs at least one
+/// encrypted data key before it is written: without, it is refused by 38
+/// ([`NoEncryptedDataKey`](crate::Refusal::NoEncryptedDataKey)).
 ///
 /// [`Body::draft`](crate::Body::draft) gives that of a body that was read.
 ///
@@ -110,17 +112,21 @@ impl Numbers {
 /// their parts. [`header_body_len`](crate::header_body_len) adds them up.
 ///
 /// ```
-/// use bafirolen::{Draft, Form, Numbers, NON_FRAMED};
+/// use bafirolen::{write_header_body, Draft, Form, Numbers, Refusal, NON_FRAMED};
 ///
-/// // Version 2, without pairs and keys.
+/// // Version 2, without pairs; a key is still to come.
 /// let numbers = Numbers::version_2(0x0478, NON_FRAMED, 0);
 /// let draft = Draft::new(numbers, &[7; 32]).with_suite_data(&[8; 32]);
 /// let mut out = [0; 100];
-/// assert_eq!(bafirolen::write_header_body(&draft, &mut out), Ok(76));
+/// assert_eq!(write_header_body(&draft, &mut out), Err(Refusal::NoEncryptedDataKey));
+///
+/// // With a key: "p1", "a" and AA BB CC.
+/// let mut draft = draft.with_tables(b"p1a\xAA\xBB\xCC", &[], &[0, 2, 2, 1, 3, 3]);
+/// assert_eq!(write_header_body(&draft, &mut out), Ok(88));
 ///
 /// // The same, with the empty context as it was stored once.
-/// let draft = Draft::new(numbers.with_form(Form::Old), &[7; 32]).with_suite_data(&[8; 32]);
-/// assert_eq!(bafirolen::write_header_body(&draft, &mut out), Ok(78));
+/// draft.numbers.form = Form::Old;
+/// assert_eq!(write_header_body(&draft, &mut out), Ok(90));
 /// assert_eq!(out[35..39], [0, 2, 0, 0]);
 /// ```
 #[derive(Clone, Copy, Debug, Default, PartialEq, Eq, Hash)]
@@ -140,12 +146,15 @@ pub struct Draft<'a> {
     /// value start, value length.
     pub pairs: &'a [u32],
     /// The encrypted data keys, six numbers each: start and length of the
-    /// provider ID, of the provider info and of the ciphertext.
+    /// provider ID, of the provider info and of the ciphertext. There is at least
+    /// one, or the draft is refused by 38.
     pub keys: &'a [u32],
 }
 
 impl<'a> Draft<'a> {
-    /// A draft without suite data, pairs and keys.
+    /// A draft without suite data, pairs and keys. Before it is written, it needs
+    /// a key, which [`with_tables`](Draft::with_tables) gives it, and in version 2
+    /// suite data.
     #[inline]
     pub const fn new(numbers: Numbers, message_id: &'a [u8]) -> Draft<'a> {
         Draft {

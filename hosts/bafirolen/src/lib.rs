@@ -6,7 +6,9 @@
 //!
 //! A header has an encryption context, pairs of key and value, and encrypted
 //! data keys. Both keep their order: no order is tested, and nothing is sorted,
-//! but for what [`write_only_authenticated`] writes. Either may be empty.
+//! but for what [`write_only_authenticated`] writes. There may be no pair; there
+//! is at least one encrypted data key, and a header without any is refused by 38,
+//! when it is read and when it is to be written.
 //!
 //! # Lending
 //!
@@ -135,7 +137,7 @@
 //!     }
 //! }
 //! # let mut message = vec![1, 0x80, 1, 0x78];
-//! # assert_eq!(fetched(&mut message, 1 << 20), Err(Refusal::ContentType));
+//! # assert_eq!(fetched(&mut message, 1 << 20), Err(Refusal::NoEncryptedDataKey));
 //! # let mut message = vec![1, 0x80, 1, 0x78];
 //! # assert_eq!(fetched(&mut message, 10), Err(Refusal::Shortage { position: 20 }));
 //! ```

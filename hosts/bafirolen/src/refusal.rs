@@ -48,7 +48,7 @@ macro_rules! refusals {
         }
 
         impl Refusal {
-            /// The refusal's number, 1 to 37 where it is listed.
+            /// The refusal's number, 1 to 38 where it is listed.
             #[must_use]
             pub const fn number(&self) -> u32 {
                 match self {
@@ -130,6 +130,7 @@ refusals! {
     35 FinalContentTooLong "content of the final frame longer than the frame length",
     36 NoFrame "no frame to write",
     37 RegularContentLength "content of a frame before the last not of the frame length",
+    38 NoEncryptedDataKey "no encrypted data key",
 }
 
 impl Refusal {

@@ -49,6 +49,7 @@ pub enum Remedy {
     /// asked for), a writer's caller corrects the fields, the frames (36 and 37
     /// are refused in writing alone, and 35 in reading too) or the required
     /// table (31), and one who looked for a key (29) does without: the context
-    /// is good and lacks it.
+    /// is good and lacks it. 38 is a reader's and a writer's: a message without
+    /// an encrypted data key is rejected, and a draft is given one.
     Reject,
 }

@@ -28,7 +28,7 @@ pub enum Which {
 }
 
 /// A request to read a body. By default either version is taken, tolerantly
-/// and with any count of keys.
+/// and with any count of keys above 0.
 ///
 /// ```
 /// use bafirolen::{Mode, Request, Which};
@@ -46,7 +46,7 @@ pub struct Request {
     pub which: Which,
     /// Whether the old form of an empty context is accepted.
     pub mode: Mode,
-    /// The greatest count of keys that is taken; `None`: any.
+    /// The greatest count of keys that is taken; `None`: any above 0.
     pub max: Option<u64>,
 }
 
@@ -75,8 +75,8 @@ impl Request {
         self
     }
 
-    /// The same request, of at most that many keys. At most 0 takes a body
-    /// without keys.
+    /// The same request, of at most that many keys. At most 0 takes no body:
+    /// each has a key, or is refused by 38.
     #[inline]
     pub const fn at_most(mut self, keys: u64) -> Request {
         self.max = Some(keys);

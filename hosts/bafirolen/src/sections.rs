@@ -16,7 +16,7 @@ pub struct Context<'m, 't> {
     count: u64,
 }
 
-/// An accepted section of encrypted data keys.
+/// An accepted section of encrypted data keys, of which it has at least one.
 #[derive(Clone, Copy)]
 #[non_exhaustive]
 #[must_use]
@@ -136,6 +136,8 @@ pub fn read_aad_section<'m, 't>(
 /// In the order of the tests:
 /// - 1 [`NotAddressable`](Refusal::NotAddressable);
 /// - 2 [`Shortage`](Refusal::Shortage), where the next field is not all there;
+/// - 38 [`NoEncryptedDataKey`](Refusal::NoEncryptedDataKey), as soon as the
+///   count is read;
 /// - 15 [`TooManyKeys`](Refusal::TooManyKeys), before any key is read;
 /// - of each key 16 [`ProviderIdNotUtf8`](Refusal::ProviderIdNotUtf8);
 /// - 23 [`KeyTableTooShort`](Refusal::KeyTableTooShort).

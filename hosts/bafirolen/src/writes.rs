@@ -44,14 +44,15 @@ pub fn write_aad_section(text: &[u8], pairs: &[u32], out: &mut [u8]) -> Result<u
 }
 
 /// Writes a section of the table's keys, whose places lie in `text`, to the
-/// front of `out`; answers its length: 2, 6 for each key, and their parts. All
-/// numbers of the table are taken, as [`Draft`] says.
+/// front of `out`; answers its length: 2, 6 for each key, and their parts. There
+/// is at least one key. All numbers of the table are taken, as [`Draft`] says.
 ///
 /// # Errors
 ///
 /// In the order of the tests:
 /// - 26 [`TableOrPlace`](Refusal::TableOrPlace);
 /// - 27 [`CountOrPartTooLong`](Refusal::CountOrPartTooLong);
+/// - 38 [`NoEncryptedDataKey`](Refusal::NoEncryptedDataKey);
 /// - of each key 16 [`ProviderIdNotUtf8`](Refusal::ProviderIdNotUtf8);
 /// - 28 [`OutputTooShort`](Refusal::OutputTooShort).
 #[inline]
@@ -92,7 +93,8 @@ pub fn write_encrypted_data_keys_section(
 ///   12 [`KeySeenBefore`](Refusal::KeySeenBefore), then
 ///   13 [`PairsTooLong`](Refusal::PairsTooLong);
 /// - 33 [`PairInOldForm`](Refusal::PairInOldForm), if the form is old;
-/// - of the keys 26 and 27 likewise, and of each
+/// - of the keys 26 and 27 likewise,
+///   38 [`NoEncryptedDataKey`](Refusal::NoEncryptedDataKey), and of each
 ///   16 [`ProviderIdNotUtf8`](Refusal::ProviderIdNotUtf8);
 /// - 17 [`ContentType`](Refusal::ContentType);
 /// - 19 [`IvLength`](Refusal::IvLength);

@@ -78,7 +78,7 @@ fn of_version_2() {
 
 /// H's fields with a fault, and the number that it is refused by; the text goes
 /// on with letters.
-fn faulty(text: &[u8]) -> [(Draft<'_>, u32); 19] {
+fn faulty(text: &[u8]) -> [(Draft<'_>, u32); 20] {
     let pairs = |pairs: &'static [u32]| draft().with_tables(text, pairs, draft().keys);
     let keys = |keys: &'static [u32]| draft().with_tables(text, draft().pairs, keys);
     let numbers = |change: fn(&mut Numbers)| {
@@ -101,6 +101,7 @@ fn faulty(text: &[u8]) -> [(Draft<'_>, u32); 19] {
         (numbers(|numbers| numbers.form = Form::Old), 33),
         (keys(&[38, 2, 42]), 26),
         (keys(&[38, 2, 58, 65_536, 45, 3]), 27),
+        (keys(&[]), 38),
         (keys(&[45, 3, 42, 1, 45, 3]), 16),
         (numbers(|numbers| numbers.content_type = 3), 17),
         (numbers(|numbers| numbers.header_iv_length = 0), 19),

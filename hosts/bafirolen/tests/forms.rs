@@ -97,7 +97,8 @@ fn a_pair_in_the_old_form() {
     let again = pairs(&[26, 4, 32, 2, 26, 4, 32, 2]);
     assert_eq!(answer(again), Refusal::KeySeenBefore);
     for keys in [
-        &[38, 2, 42][..],
+        &[][..],
+        &[38, 2, 42],
         &[38, 2, 42, 1, 57, 2],
         &[45, 3, 42, 1, 45, 3],
     ] {

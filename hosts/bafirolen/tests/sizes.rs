@@ -50,7 +50,7 @@ fn body(version: usize, form: Form, pairs: &[u32], keys: &[u32], text: &[u8]) ->
 fn as_the_docs_say() {
     let text: Vec<u8> = (b'a'..=b'z').cycle().take(600).collect();
     let pairs: [&[u32]; 4] = [&[], &[0, 0], &[1, 3, 2, 0], &[5, 9, 4, 7, 250, 80]];
-    let keys: [&[u32]; 3] = [&[], &[0, 0, 0], &[2, 1, 3, 9, 0, 300]];
+    let keys: [&[u32]; 3] = [&[1, 0, 2], &[0, 0, 0], &[2, 1, 3, 9, 0, 300]];
     let mut longest = 0;
     for pairs in pairs {
         let places = table(pairs);

@@ -7,16 +7,16 @@ use bafirolen::{Draft, Form, Numbers};
 /// Those of document 01's header H.
 const H: Numbers = Numbers::version_1(0x0178, 2, 4_096);
 
-/// What writing them with no pair and no key answers: a refusal's number, or
+/// What writing them with no pair and one key answers: a refusal's number, or
 /// 0. A refusal leaves the output. The length, asked before, is answered alike.
 fn answer(numbers: Numbers) -> u32 {
     let mut out = [0xEE; 64];
-    let draft = Draft::new(numbers, &[0; 16]);
+    let draft = Draft::new(numbers, &[0; 16]).with_tables(b"p1", &[], &[0, 2, 2, 0, 2, 0]);
     let answer = write_header_body(&draft, &mut out);
     assert_eq!(header_body_len(&draft), answer);
     match answer {
         Ok(length) => {
-            assert_eq!((length, out[0]), (34, 1));
+            assert_eq!((length, out[0]), (42, 1));
             0
         }
         Err(refusal) => {
