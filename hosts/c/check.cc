@@ -1,8 +1,8 @@
 /*
  * A host in C++: bafirolen.h is included twice, what is empty is lent as an empty vector has it; header H is read, its pairs and
  * keys are gone through, it is measured and written again, as is one with an empty context in the old form, and what is
- * authenticated of its context is written alone; frames are read, gone through, measured and written again. Writes `compared N
- * cases`; a difference is written to standard error, and the exit status is 1.
+ * authenticated of its context is written alone; without its key it is refused; frames are read, gone through, measured and
+ * written again. Writes `compared N cases`; a difference is written to standard error, and the exit status is 1.
  *
  *     rt staticlib bafirolen_c
  *     g++ -std=c++11 -O2 -Wall -Wextra -Wpedantic -Iinclude hosts/c/check.cc target/staticlib/libbafirolen_c.a -o target/check
@@ -107,6 +107,26 @@ void old_form_again()
     same("its bytes", out, old);
 }
 
+/* H without its key is refused, and nothing is written from a table that is empty */
+void no_key()
+{
+    Bytes keyless(H.begin(), H.begin() + 34), none;
+    keyless.insert(keyless.end(), {0, 0});
+    keyless.insert(keyless.end(), H.begin() + 48, H.end());
+    Table pairs(BAFIROLEN_NUMBERS_PER_PAIR), keys;
+    const BafirolenBody b = read(keyless, pairs, keys);
+    same("no key", b.number == BAFIROLEN_REFUSED_NO_ENCRYPTED_DATA_KEY && b.position == 0 && b.tail == 0, true);
+    same("no pair of it", pairs, Table(BAFIROLEN_NUMBERS_PER_PAIR));
+    Bytes out(46, 0xEE);
+    BafirolenWritten w = bafirolen_write_encrypted_data_keys_section(none.data(), 0, keys.data(), 0, out.data(), out.size());
+    same("no key to write", w.number == BAFIROLEN_REFUSED_NO_ENCRYPTED_DATA_KEY && w.position == 0 && w.length == 0, true);
+    const BafirolenNumbers n = bafirolen_v1_numbers(0x0178, BAFIROLEN_FRAMED, 4096);
+    w = bafirolen_write_header_body(n, &H[4], 16, none.data(), 0, none.data(), 0, nullptr, 0, keys.data(), 0, out.data(),
+                                    out.size());
+    same("a body without a key", w.number == BAFIROLEN_REFUSED_NO_ENCRYPTED_DATA_KEY && w.position == 0 && w.length == 0, true);
+    same("nothing is written", out, Bytes(46, 0xEE));
+}
+
 /* what an empty vector gives for a pointer may be null */
 void empty_vectors()
 {
@@ -202,10 +222,12 @@ int main()
 {
     same("the version of the declarations", bafirolen_version(), uint32_t(BAFIROLEN_VERSION));
     same("the text of a refusal", std::string(bafirolen_refusal_text(BAFIROLEN_REFUSED_NOT_FOUND)), "no pair has the key");
-    same("the text of no refusal", std::string(bafirolen_refusal_text(38)), "unknown refusal");
+    same("the text of the last refusal", std::string(bafirolen_refusal_text(38)), "no encrypted data key");
+    same("the text of no refusal", std::string(bafirolen_refusal_text(39)), "unknown refusal");
     read_and_write_again();
     old_form_again();
     only_authenticated();
+    no_key();
     empty_vectors();
     frames();
     std::cout << "compared " << cases << " cases\n" << std::flush;

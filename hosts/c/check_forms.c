@@ -171,6 +171,7 @@ static void faulty_tables(void)
                     {"a key outside", outside_key, 6, BAFIROLEN_REFUSED_TABLE_OR_PLACE},
                     {"too many keys", many, 6 * 65536, BAFIROLEN_REFUSED_COUNT_OR_PART_TOO_LONG},
                     {"a long part of a key", long_key, 6, BAFIROLEN_REFUSED_COUNT_OR_PART_TOO_LONG},
+                    {"no key", H_keys, 0, BAFIROLEN_REFUSED_NO_ENCRYPTED_DATA_KEY},
                     {"a bad provider", bad_provider, 6, BAFIROLEN_REFUSED_PROVIDER_ID_NOT_UTF8}};
     size_t i;
     for (i = 0; i < COUNT(pair_rows); i++) {
@@ -235,6 +236,8 @@ int main(void)
         refused_by("a pair marked old", r, BAFIROLEN_REFUSED_PAIR_IN_OLD_FORM);
         r.pairs = many;
         refused_by("a pair of empty parts marked old", r, BAFIROLEN_REFUSED_PAIR_IN_OLD_FORM);
+        r.pairs_len = r.keys_len = 0;
+        refused_by("neither a pair nor a key, marked old", r, BAFIROLEN_REFUSED_NO_ENCRYPTED_DATA_KEY);
     }
     faulty_tables();
     faulty_fields();

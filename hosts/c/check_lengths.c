@@ -71,6 +71,8 @@ static void shaped(struct shape s)
         refused_by("a key again", r, BAFIROLEN_REFUSED_KEY_SEEN_BEFORE);
     } else if (s.fault == BAD_VALUE && s.pairs > 0) {
         refused_by("a bad value", r, BAFIROLEN_REFUSED_VALUE_NOT_UTF8);
+    } else if (s.keys == 0) {
+        refused_by("a body without a key", r, BAFIROLEN_REFUSED_NO_ENCRYPTED_DATA_KEY);
     } else {
         takes("a body", r, body.bytes, body.length);
     }
@@ -79,7 +81,7 @@ static void shaped(struct shape s)
 /* without pairs in both forms; on each side of the sizes that the index of seen keys has, 32 and 1,024 */
 static void shapes(void)
 {
-    static const uint32_t pairs_of[] = {0, 1, 2, 3, 32, 33, 1024, 1025}, keys_of[] = {0, 1, 2, 60};
+    static const uint32_t pairs_of[] = {0, 1, 2, 3, 32, 33, 1024, 1025}, keys_of[] = {0, 1, 2, 3, 60};
     struct shape s;
     size_t i, k;
     for (i = 0; i < COUNT(pairs_of); i++) {
@@ -110,7 +112,7 @@ static const uint32_t bad_value[4] = {26, 4, 45, 3}, again[8] = {26, 4, 32, 2, 2
 static const uint32_t outside_key[6] = {38, 2, 42, 1, 65699, 2}, long_key[6] = {38, 2, 58, 65536, 45, 3};
 static const uint32_t bad_provider[6] = {45, 3, 42, 1, 45, 3};
 
-/* H's fields with one fault, which decides */
+/* H's fields with one fault, which decides, in the order of the tests */
 static const struct fault_row {
     const char *what;
     BafirolenNumbers numbers;
@@ -142,15 +144,40 @@ static const struct fault_row {
             {"suite data", {1, 0x80, 0x0178, 2, 12, 4096, 0}, 16, 1, H_pairs, H_keys, 4, 6, 25},
             {"frame length", {1, 0x80, 0x0178, 2, 12, 0, 0}, 16, 0, H_pairs, H_keys, 4, 6, 20}};
 
+/* each row, and the same with an empty key table: up to 33 its fault is tested first, and from then on 38 is */
 static void refusals(void)
 {
+    int keys_tested = 0;
     size_t i;
     memcpy(text, H, sizeof H);
     memset(text + sizeof H, 'z', sizeof text - sizeof H);
     for (i = 0; i < COUNT(rows); i++) {
-        const struct request r = {rows[i].numbers, text + 4, text, text, rows[i].pairs, rows[i].keys, rows[i].id, rows[i].data,
-                                  sizeof text, rows[i].pairs_len, rows[i].keys_len};
+        struct request r = {rows[i].numbers, text + 4, text, text, rows[i].pairs, rows[i].keys, rows[i].id, rows[i].data,
+                            sizeof text, rows[i].pairs_len, rows[i].keys_len};
         refused_by(rows[i].what, r, rows[i].number);
+        r.keys_len = 0;
+        refused_by(rows[i].what, r, keys_tested ? BAFIROLEN_REFUSED_NO_ENCRYPTED_DATA_KEY : rows[i].number);
+        keys_tested = keys_tested || rows[i].number == BAFIROLEN_REFUSED_PAIR_IN_OLD_FORM;
+    }
+}
+
+/* without a key it is 38 whatever its form, and with text or without; a table that is not in sixes is no empty one; and a key of
+ * empty parts is a key: a body of version 1 has 34 bytes and 6 then */
+static void keyless(void)
+{
+    struct request r = {{1, 0x80, 0x0178, 2, 12, 4096, BAFIROLEN_TODAY}, text + 4, text, text, many, many, 16, 0, 0, 0, 0};
+    uint8_t image[BYTES];
+    uint32_t form;
+    for (form = BAFIROLEN_TODAY; form <= 2; form++) {
+        r.numbers.form = form;
+        for (r.text_len = 0; r.text_len <= sizeof H; r.text_len += sizeof H) {
+            r.keys_len = 0;
+            refused_by("neither a pair nor a key", r, BAFIROLEN_REFUSED_NO_ENCRYPTED_DATA_KEY);
+            for (r.keys_len = 1; r.keys_len < 6; r.keys_len++) {
+                refused_by("a part of a key", r, BAFIROLEN_REFUSED_TABLE_OR_PLACE);
+            }
+            takes("a key of empty parts", r, image, header_in_form(image, 1, form, "\0\1\0\0\0\0\0\0", 8));
+        }
     }
 }
 
@@ -158,5 +185,6 @@ int main(void)
 {
     shapes();
     refusals();
+    keyless();
     return compared();
 }

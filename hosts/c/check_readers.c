@@ -1,24 +1,24 @@
 /*
  * A host in C: calls every exported operation that reads but two, and compares each number that it answers, and each byte and
  * table entry that it was lent, with what documents 01 and 02 say. Writes `compared N cases`; a difference is written to standard
- * error, and the exit status is 1. check_writers.c does the same for what writes, and for reading authentication records, and
- * check_frames.c for reading frames.
+ * error, and the exit status is 1. check_writers.c does the same for what writes, and for reading authentication records,
+ * check_frames.c for reading frames, and check_no_key.c for reading what has no encrypted data key.
  *
  *     rt staticlib bafirolen_c
  *     gcc -std=c99 -O2 -Wall -Wextra -Iinclude hosts/c/check_readers.c target/staticlib/libbafirolen_c.a -o target/check_readers
  */
 #include "compare.h"
 
-/* what an accepted message here leaves in the tables: H's pair, or none; H's key, as much earlier as the tail is, or none */
+/* what an accepted message here leaves in the tables: H's pair, or none; H's key, moved with the tail: 58 in H, 85 in version 2 */
 static void tables_are(const char *what, BafirolenBody b)
 {
-    uint32_t earlier[6];
+    uint32_t moved[6];
     size_t i;
     for (i = 0; i < 6; i++) {
-        earlier[i] = H_keys[i] - (i % 2 == 0 && b.keyCount == 1 ? (uint32_t)(58 - b.tail) : 0);
+        moved[i] = H_keys[i] + (i % 2 == 0 ? (uint32_t)b.tail - (b.numbers.version == 1 ? 58 : 85) : 0);
     }
     table_is(what, pairs, H_pairs, 4 * b.pairCount);
-    table_is(what, keys, earlier, 6 * b.keyCount);
+    table_is(what, keys, moved, 6 * b.keyCount);
 }
 
 /* which, mode, has_max, max, numbers lent for pairs and for keys: number and position */
@@ -33,6 +33,7 @@ static void read_as(const char *what, const uint8_t *m, size_t n, uint64_t start
     same(what, b.position, position);
     if (number == BAFIROLEN_ACCEPTED) {
         same(what, b.tail, n);
+        same(what, b.keyCount, 1);
         same(what, b.numbers.form, form_of(m + start));
     } else {
         b.number = b.position = 0;
@@ -47,7 +48,7 @@ static void read_bodies(void)
     static const uint64_t plain[6] = {0, 0, 0, 0, NUMBERS, NUMBERS};
     static const uint64_t few_pairs[6] = {0, 0, 0, 0, 3, 6}, few_keys[6] = {0, 0, 0, 0, 4, 5};
     static const uint64_t one[6] = {1, 0, 0, 0, 4, 6}, two[6] = {2, 0, 0, 0, 4, 6}, other[6] = {255, 0, 0, 0, 4, 6};
-    static const uint64_t no_key[6] = {0, 0, 1, 0, 4, 6}, one_key[6] = {0, 1, 255, 1, 4, 6};
+    static const uint64_t at_most_0[6] = {0, 0, 1, 0, 4, 6}, at_most_1[6] = {0, 1, 255, 1, 4, 6};
     struct {
         uint64_t before;
         BafirolenBody body;
@@ -68,8 +69,8 @@ static void read_bodies(void)
     read_as("version 1 only", H, 58, 0, one, BAFIROLEN_ACCEPTED, 0);
     read_as("version 2 only", H, 58, 0, two, BAFIROLEN_REFUSED_OTHER_VERSION, 0);
     read_as("another number", H, 58, 0, other, BAFIROLEN_ACCEPTED, 0);
-    read_as("no key", H, 58, 0, no_key, BAFIROLEN_REFUSED_TOO_MANY_KEYS, 0);
-    read_as("one key", H, 58, 0, one_key, BAFIROLEN_ACCEPTED, 0);
+    read_as("at most 0 keys", H, 58, 0, at_most_0, BAFIROLEN_REFUSED_TOO_MANY_KEYS, 0);
+    read_as("at most 1 key", H, 58, 0, at_most_1, BAFIROLEN_ACCEPTED, 0);
     read_as("a pair table of 3", H, 58, 0, few_pairs, BAFIROLEN_REFUSED_PAIR_TABLE_TOO_SHORT, 0);
     read_as("a key table of 5", H, 58, 0, few_keys, BAFIROLEN_REFUSED_KEY_TABLE_TOO_SHORT, 0);
 }
@@ -218,13 +219,13 @@ static void unknown_versions(void)
     static const struct {
         size_t which, content, frame, len;
         uint8_t content_type, frame_length;
-    } rows[] = {{1, 48, 57, 58, 2, 0}, {1, 48, 57, 58, 1, 16}, {2, 39, 43, 76, 2, 0}, {2, 39, 43, 76, 1, 16}};
-    uint8_t m[76];
+    } rows[] = {{1, 48, 56, 58, 2, 0}, {1, 48, 56, 58, 1, 16}, {2, 51, 54, 88, 2, 0}, {2, 51, 54, 88, 1, 16}};
+    uint8_t m[88];
     size_t i, k;
     for (i = 0; i < COUNT(rows); i++) {
         uint64_t q[6] = {0, 0, 0, 0, NUMBERS, NUMBERS};
-        memset(m, 0, sizeof m);
-        memcpy(m, rows[i].which == 1 ? H : (const uint8_t *)"\x02\x05\x78", rows[i].which == 1 ? 54 : 3);
+        const size_t n = rows[i].which == 1 ? append(m, 0, H, sizeof H) : bare_header(m, 2, BAFIROLEN_TODAY);
+        same("the length of a header that breaks 20", n, rows[i].len);
         m[rows[i].content] = rows[i].content_type;
         m[rows[i].frame] = rows[i].frame_length;
         read_as("20, either version", m, rows[i].len, 0, q, BAFIROLEN_REFUSED_FRAME_LENGTH, 0);

@@ -27,6 +27,10 @@ static void write_sections(void)
     w = bafirolen_write_encrypted_data_keys_section(H, 58, H_keys, 6, out, BYTES);
     written_is("the key section", w, 0, 14);
     output_is("the key section", H + 34, 14);
+    fresh();
+    w = bafirolen_write_encrypted_data_keys_section(H, 58, H_keys, 0, out, BYTES);
+    written_is("a key section without a key", w, BAFIROLEN_REFUSED_NO_ENCRYPTED_DATA_KEY, 0);
+    output_is("a key section without a key", fresh_bytes, 0);
 }
 
 /* the numbers with one of them changed: what is refused, or 0; the length knows nothing of an output */
@@ -103,29 +107,35 @@ static void refuse_version_2(void)
     }
 }
 
-/* an ID and suite data of 32 bytes, no key */
+/* an ID and suite data of 32 bytes; and without a key */
 static void write_version_2(void)
 {
     static const BafirolenNumbers n = {2, 0, 0x0578, 1, 0, 0, 0};
-    static const uint64_t want[BODY_FIELDS] = {0, 0, 2, 0, 0x0578, 1, 0, 0, BAFIROLEN_TODAY, 3, 32, 1, 0, 56, 32, 88};
-    static const uint32_t V2_pairs[4] = {41, 4, 47, 2};
+    static const uint64_t want[BODY_FIELDS] = {0, 0, 2, 0, 0x0578, 1, 0, 0, BAFIROLEN_TODAY, 3, 32, 1, 1, 68, 32, 100};
+    static const uint32_t V2_pairs[4] = {41, 4, 47, 2}, V2_keys[6] = {53, 2, 57, 1, 60, 3};
     BafirolenWritten w;
     BafirolenBody b;
-    w = bafirolen_header_body_len(n, H, 32, H + 20, 32, H, 58, H_pairs, 4, H_keys, 0);
-    written_is("the length of version 2", w, 0, 88);
+    w = bafirolen_header_body_len(n, H, 32, H + 20, 32, H, 58, H_pairs, 4, H_keys, 6);
+    written_is("the length of version 2", w, 0, 100);
     fresh();
-    w = bafirolen_write_header_body(n, H, 32, H + 20, 32, H, 58, H_pairs, 4, H_keys, 0, out, BYTES);
-    written_is("version 2", w, 0, 88);
+    w = bafirolen_write_header_body(n, H, 32, H + 20, 32, H, 58, H_pairs, 4, H_keys, 6, out, BYTES);
+    written_is("version 2", w, 0, 100);
     same_bytes("version 2", out, "\x02\x05\x78", 3);
     same_bytes("version 2", out + 3, H, 32);
-    same_bytes("version 2", out + 35, H + 20, 14);
-    same_bytes("version 2", out + 49, "\0\0\1\0\0\0\0", 7);
-    same_bytes("version 2", out + 56, H + 20, 32);
-    same_bytes("version 2", out + 88, fresh_bytes, BYTES - 88);
-    b = bafirolen_read_header_body(out, 88, 0, BAFIROLEN_V2_ONLY, BAFIROLEN_STRICT, BAFIROLEN_AT_MOST, 0, pairs, 4, keys, 0);
+    same_bytes("version 2", out + 35, H + 20, 28);
+    same_bytes("version 2", out + 63, "\1\0\0\0\0", 5);
+    same_bytes("version 2", out + 68, H + 20, 32);
+    same_bytes("version 2", out + 100, fresh_bytes, BYTES - 100);
+    b = bafirolen_read_header_body(out, 100, 0, BAFIROLEN_V2_ONLY, BAFIROLEN_STRICT, BAFIROLEN_AT_MOST, 1, pairs, 4, keys, 6);
     body_is("version 2", b, want);
     table_is("version 2", pairs, V2_pairs, 4);
-    table_is("version 2", keys, fresh_numbers, 0);
+    table_is("version 2", keys, V2_keys, 6);
+    w = bafirolen_header_body_len(n, H, 32, H + 20, 32, H, 58, H_pairs, 4, H_keys, 0);
+    written_is("the length of version 2 without a key", w, BAFIROLEN_REFUSED_NO_ENCRYPTED_DATA_KEY, 0);
+    fresh();
+    w = bafirolen_write_header_body(n, H, 32, H + 20, 32, H, 58, H_pairs, 4, H_keys, 0, out, BYTES);
+    written_is("version 2 without a key", w, BAFIROLEN_REFUSED_NO_ENCRYPTED_DATA_KEY, 0);
+    output_is("version 2 without a key", fresh_bytes, 0);
 }
 
 static void numbers_made(void)

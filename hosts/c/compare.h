@@ -163,17 +163,31 @@ static inline size_t append(uint8_t *m, size_t at, const void *bytes, size_t n)
     return at + n;
 }
 
-/* a header of a version and a form without pairs and keys: its length, which is 34 and 76 today, and 2 more in the old form */
-static inline size_t bare_header(uint8_t *m, uint32_t version, uint32_t form)
+/* a header of a version with these two sections: its length, which is theirs and 30 in version 1, 72 in version 2 */
+static inline size_t header_of(uint8_t *m, uint32_t version, const void *context, size_t context_len, const void *keys,
+                               size_t keys_len)
 {
     size_t n = append(m, 0, version == 1 ? "\x01\x80\x01\x78" : "\x02\x05\x78", version == 1 ? 4 : 3);
     n = append(m, n, H + 4, version == 1 ? 16 : 32);
-    n = append(m, n, form == BAFIROLEN_TODAY ? "\0\0" : "\0\2\0\0", form == BAFIROLEN_TODAY ? 2 : 4);
-    n = append(m, n, "\0\0", 2);
+    n = append(m, n, context, context_len);
+    n = append(m, n, keys, keys_len);
     /* the content type, in version 1 also the reserved bytes and the IV length; the frame length; in version 2 suite data */
     n = append(m, n, H + 48, version == 1 ? 6 : 1);
     n = append(m, n, H + 54, 4);
     return append(m, n, H + 20, version == 1 ? 0 : 32);
+}
+
+/* a header of a version and a form without pairs, with this key section: its length */
+static inline size_t header_in_form(uint8_t *m, uint32_t version, uint32_t form, const void *keys, size_t keys_len)
+{
+    const int today = form == BAFIROLEN_TODAY;
+    return header_of(m, version, today ? "\0\0" : "\0\2\0\0", today ? 2 : 4, keys, keys_len);
+}
+
+/* the same with H's key: its length, which is 46 and 88 today, and 2 more in the old form */
+static inline size_t bare_header(uint8_t *m, uint32_t version, uint32_t form)
+{
+    return header_in_form(m, version, form, H + 34, 14);
 }
 
 /* how many cases were compared; the exit status, which is 1 where none was */

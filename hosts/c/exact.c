@@ -241,6 +241,9 @@ static void write_parts(void)
         holds("what is authenticated", w, o, room, H + 22, 12);
         w = bafirolen_write_encrypted_data_keys_section(text, 58, lend_const(H_keys, sizeof H_keys), 6, o, room);
         holds("a key section", w, o, room, H + 34, 14);
+        w = bafirolen_write_encrypted_data_keys_section(text, 58, lend_const(H_keys, 0), 0, o, room);
+        written_is("no key", w, BAFIROLEN_REFUSED_NO_ENCRYPTED_DATA_KEY, 0);
+        same_bytes("no key", o, fresh_bytes, room);
         w = bafirolen_write_header_auth_tag(0x0014, lend_const(record, 12), 12, lend_const(record + 12, 16), 16, o, room);
         holds("a record", w, o, room, record, 28);
         let_go();
@@ -255,10 +258,11 @@ static void write_parts(void)
 
 int main(void)
 {
-    uint8_t old[sizeof V2];
+    uint8_t old[sizeof V2], keyless[sizeof V2];
     size_t length;
     read_cuts(H, sizeof H, 1, 1);
     read_cuts(V2, sizeof V2, 2, 2);
+    read_cuts(keyless, header_of(keyless, 1, H + 20, 14, "\0\0", 2), 1, 1);
     read_past_section(H, sizeof H, 20, 1, 1);
     read_past_section(V2, sizeof V2, 35, 2, 2);
     write_again(H, sizeof H);

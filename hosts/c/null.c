@@ -45,20 +45,24 @@ static void by_null_and_by_another(const struct export *e, void *behind)
 static void readers(void)
 {
     static const uint64_t cut[BODY_FIELDS] = {BAFIROLEN_REFUSED_SHORTAGE, 1};
-    static const uint64_t bare[BODY_FIELDS] = {0, 0, 1, 0x80, 0x0178, 2, 12, 4096, BAFIROLEN_TODAY, 4, 16, 0, 0, 0, 0, 34};
+    static const uint64_t bare[BODY_FIELDS] = {0, 0, 1, 0x80, 0x0178, 2, 12, 4096, BAFIROLEN_TODAY, 4, 16, 0, 1, 0, 0, 40};
     static const uint64_t few_pairs[BODY_FIELDS] = {BAFIROLEN_REFUSED_PAIR_TABLE_TOO_SHORT};
     static const uint64_t few_keys[BODY_FIELDS] = {BAFIROLEN_REFUSED_KEY_TABLE_TOO_SHORT};
+    static const uint64_t no_key[BODY_FIELDS] = {BAFIROLEN_REFUSED_NO_ENCRYPTED_DATA_KEY};
     BafirolenSection s;
     BafirolenPlace p;
     fresh();
     body_is("no message", bafirolen_read_header_body(NULL, 0, 0, 0, 0, 0, 0, NULL, 0, NULL, 0), cut);
-    body_is("no tables", bafirolen_read_header_body(BARE, 34, 0, 0, 0, 0, 0, NULL, 0, NULL, 0), bare);
+    body_is("no tables", bafirolen_read_header_body(BARE, 40, 0, 0, 0, 0, 0, NULL, 0, NULL, 0), few_keys);
+    body_is("no tables, no key", bafirolen_read_header_body(KEYLESS, 34, 0, 0, 0, 0, 0, NULL, 0, NULL, 0), no_key);
     body_is("no pair table", bafirolen_read_header_body(H, 58, 0, 0, 0, 0, 0, NULL, 0, keys, 6), few_pairs);
     body_is("no key table", bafirolen_read_header_body(H, 58, 0, 0, 0, 0, 0, pairs, 4, NULL, 0), few_keys);
-    s = bafirolen_read_aad_section(BARE, 34, 20, BAFIROLEN_STRICT, NULL, 0);
+    s = bafirolen_read_aad_section(BARE, 40, 20, BAFIROLEN_STRICT, NULL, 0);
     section_is("no pair table, no pair", s, 0, 0, 0, 22);
-    s = bafirolen_read_encrypted_data_keys_section(BARE, 34, 22, BAFIROLEN_NO_MAX, 0, NULL, 0);
-    section_is("no key table, no key", s, 0, 0, 0, 24);
+    s = bafirolen_read_encrypted_data_keys_section(BARE, 40, 22, BAFIROLEN_NO_MAX, 0, NULL, 0);
+    section_is("no key table, a key", s, BAFIROLEN_REFUSED_KEY_TABLE_TOO_SHORT, 0, 0, 0);
+    s = bafirolen_read_encrypted_data_keys_section(KEYLESS, 34, 22, BAFIROLEN_NO_MAX, 0, NULL, 0);
+    section_is("no key table, no key", s, BAFIROLEN_REFUSED_NO_ENCRYPTED_DATA_KEY, 0, 0, 0);
     s = bafirolen_read_frames(NULL, 0, 0, 3, NULL, 0);
     section_is("frames of no message", s, BAFIROLEN_REFUSED_SHORTAGE, 4, 0, 0);
     s = bafirolen_read_frames(RUN, sizeof RUN, 0, 3, NULL, 0);
@@ -71,15 +75,20 @@ static void readers(void)
     same("position of no message", bafirolen_header_position(NULL, 0, 0), 1);
     table_is("no table", pairs, fresh_numbers, 0);
     table_is("no table", keys, fresh_numbers, 0);
+    body_is("no pair table, no pair", bafirolen_read_header_body(BARE, 40, 0, 0, 0, 0, 0, NULL, 0, keys, 6), bare);
+    table_is("its key", keys, BARE_keys, 6);
 }
+
+/* a key whose parts have no byte, so that it lies in no text */
+static const uint32_t hollow_key[6];
 
 static void writers(void)
 {
-    BafirolenNumbers n = headers[1].numbers;
-    BafirolenWritten w;
     written_is("an empty value", bafirolen_copy_value(HOLLOW, 88, 35, NULL, 0, NULL, 0), 0, 0);
     written_is("no pairs", bafirolen_write_aad_section(NULL, 0, NULL, 0, NULL, 0), BAFIROLEN_REFUSED_OUTPUT_TOO_SHORT, 0);
     written_is("no keys", bafirolen_write_encrypted_data_keys_section(NULL, 0, NULL, 0, NULL, 0),
+               BAFIROLEN_REFUSED_NO_ENCRYPTED_DATA_KEY, 0);
+    written_is("no room for a key", bafirolen_write_encrypted_data_keys_section(NULL, 0, hollow_key, 6, NULL, 0),
                BAFIROLEN_REFUSED_OUTPUT_TOO_SHORT, 0);
     written_is("no IV", bafirolen_write_header_auth_tag(0x0178, NULL, 0, NULL, 0, NULL, 0), BAFIROLEN_REFUSED_IV_LENGTH, 0);
     written_is("no tag", bafirolen_write_header_auth_tag(0x0178, H, 12, NULL, 0, NULL, 0), BAFIROLEN_REFUSED_TAG_LENGTH, 0);
@@ -90,26 +99,35 @@ static void writers(void)
     written_is("no pairs", bafirolen_write_aad_section(NULL, 0, NULL, 0, out, BYTES), 0, 2);
     output_is("no pairs", BARE + 20, 2);
     fresh();
-    written_is("no keys", bafirolen_write_encrypted_data_keys_section(NULL, 0, NULL, 0, out, BYTES), 0, 2);
-    output_is("no keys", BARE + 22, 2);
+    written_is("no keys", bafirolen_write_encrypted_data_keys_section(NULL, 0, NULL, 0, out, BYTES),
+               BAFIROLEN_REFUSED_NO_ENCRYPTED_DATA_KEY, 0);
+    output_is("no keys", fresh_bytes, 0);
+    written_is("a key in no text", bafirolen_write_encrypted_data_keys_section(NULL, 0, hollow_key, 6, out, BYTES), 0, 8);
+    output_is("a key in no text", BARE + 22, 8);
     fresh();
     written_is("a listing of no message", bafirolen_write_listing(NULL, 0, out, BYTES), 0, 12);
     output_is("a listing of no message", (const uint8_t *)"refused\t2\t1\n", 12);
+}
+
+/* a header is written where all but its ID and its key is null, and refused where its key is as well, in either form */
+static void bare_headers(uint32_t form, const uint8_t *image, size_t length)
+{
+    BafirolenNumbers n = headers[1].numbers;
+    BafirolenWritten w;
+    n.form = form;
+    w = bafirolen_header_body_len(n, image + 4, 16, NULL, 0, NULL, 0, NULL, 0, NULL, 0);
+    written_is("the length of a header without a key", w, BAFIROLEN_REFUSED_NO_ENCRYPTED_DATA_KEY, 0);
     fresh();
-    w = bafirolen_header_body_len(n, BARE + 4, 16, NULL, 0, NULL, 0, NULL, 0, NULL, 0);
-    written_is("the length of a bare header", w, 0, 34);
-    w = bafirolen_write_header_body(n, BARE + 4, 16, NULL, 0, NULL, 0, NULL, 0, NULL, 0, out, BYTES);
-    written_is("a bare header", w, 0, 34);
-    output_is("a bare header", BARE, 34);
+    w = bafirolen_write_header_body(n, image + 4, 16, NULL, 0, NULL, 0, NULL, 0, NULL, 0, out, BYTES);
+    written_is("a header without a key", w, BAFIROLEN_REFUSED_NO_ENCRYPTED_DATA_KEY, 0);
+    output_is("a header without a key", fresh_bytes, 0);
+    w = bafirolen_header_body_len(n, image + 4, 16, NULL, 0, NULL, 0, NULL, 0, hollow_key, 6);
+    written_is("the length of a bare header", w, 0, length);
+    w = bafirolen_write_header_body(n, image + 4, 16, NULL, 0, NULL, 0, NULL, 0, hollow_key, 6, out, BYTES);
+    written_is("a bare header", w, 0, length);
+    output_is("a bare header", image, length);
     w = bafirolen_header_body_len(n, NULL, 0, NULL, 0, NULL, 0, NULL, 0, NULL, 0);
     written_is("the length without an ID", w, BAFIROLEN_REFUSED_ID_LENGTH, 0);
-    n.form = BAFIROLEN_OLD;
-    w = bafirolen_header_body_len(n, OLD + 4, 16, NULL, 0, NULL, 0, NULL, 0, NULL, 0);
-    written_is("the length of a bare header in the old form", w, 0, 36);
-    fresh();
-    w = bafirolen_write_header_body(n, OLD + 4, 16, NULL, 0, NULL, 0, NULL, 0, NULL, 0, out, BYTES);
-    written_is("a bare header in the old form", w, 0, 36);
-    output_is("a bare header in the old form", OLD, 36);
 }
 
 /* frames: no table, and places of no bytes in no text */
@@ -146,11 +164,16 @@ static void required_keys(void)
     output_is("the empty key required", HOLLOW + 37, 6);
 }
 
-/* a header that is lent whole is accepted by each reader and written by each writer, or the sets above would show little */
+/* a header that is lent whole is accepted by each reader and written by each writer, or the sets above would show little; one
+ * without a key is refused by each that reads or writes its keys, and accepted by the others */
 static void whole(const struct export *e)
 {
+    const int of_keys = e->call == number || e->call == read_body || e->call == read_keys || e->call == write_keys
+                        || e->call == write_body || e->call == body_length;
     ask(e->call, 0, NULL);
-    if (e->call != position && !(h->pair_numbers == 0 && (e->call == find || e->call == copy))) {
+    if (h->key_numbers == 0 && of_keys) {
+        same(e->name, answer.record.number, BAFIROLEN_REFUSED_NO_ENCRYPTED_DATA_KEY);
+    } else if (e->call != position && !(h->pair_numbers == 0 && (e->call == find || e->call == copy))) {
         same(e->name, answer.record.number, BAFIROLEN_ACCEPTED);
     }
 }
@@ -171,6 +194,8 @@ int main(void)
     }
     readers();
     writers();
+    bare_headers(BAFIROLEN_TODAY, BARE, sizeof BARE);
+    bare_headers(BAFIROLEN_OLD, OLD, sizeof OLD);
     frames();
     required_keys();
     free(allocated);

@@ -127,18 +127,23 @@ static void frames_accepted(const struct export *e)
     }
 }
 
-/* a body without a fault is accepted: what takes the most stack is not left out by a refusal */
+/* a body without a fault is accepted: what takes the most stack is not left out by a refusal; and where there is no key, those
+ * that read or write keys refuse it */
 static void accepted(const struct export *e)
 {
     const int bare = e->call == version || e->call == number || e->call == position;
     const int finds = e->call == find || e->call == copy;
+    const int of_keys = e->call == read_body || e->call == read_keys || e->call == write_keys || e->call == write_body
+                        || e->call == body_length;
     if (e->call == write_frames || e->call == frames_length) {
         if (shape.fault == NO_FAULT) {
             frames_accepted(e);
         }
         return;
     }
-    if (shape.fault == NO_FAULT && !bare && !(finds && (shape.pairs == 0 || find_key == absent))) {
+    if (shape.fault == NO_FAULT && shape.keys == 0 && (of_keys || e->call == number)) {
+        same(e->name, at_the_end.answer.number, BAFIROLEN_REFUSED_NO_ENCRYPTED_DATA_KEY);
+    } else if (shape.fault == NO_FAULT && !bare && !(finds && (shape.pairs == 0 || find_key == absent))) {
         same(e->name, at_the_end.answer.number, BAFIROLEN_ACCEPTED);
         if (e->call == write_body || e->call == body_length) {
             same(e->name, at_the_end.answer.written.length, body.length);
@@ -190,11 +195,17 @@ static void run_all(struct shape s)
 
 static void *run_bodies(void *unused)
 {
-    /* on each side of the sizes that the index of seen keys has, 32, 512 and 1,024, and about as many pairs as fit; and as many
-     * frames as are written, one more than there are pairs and keys */
+    /* on each side of the sizes that the index of seen keys has, 32, 512 and 1,024, and about as many pairs as fit; bodies without
+     * a key; and as many frames as are written, one more than there are pairs and keys */
     static const uint32_t pairs_of[] = {0, 1, 2, 32, 33, 512, 513, 1024, 1025};
     static const struct shape large[] = {{1, MOST_PAIRS, 60, SHUFFLED, NO_FAULT, BAFIROLEN_TODAY},
+                                         {2, MOST_PAIRS, 1, DESCENDING, KEY_AGAIN, BAFIROLEN_TODAY},
                                          {2, MOST_PAIRS, 0, DESCENDING, KEY_AGAIN, BAFIROLEN_TODAY},
+                                         {1, MOST_PAIRS, 0, SHUFFLED, NO_FAULT, BAFIROLEN_TODAY},
+                                         {2, 1024, 0, SHUFFLED, NO_FAULT, BAFIROLEN_TODAY},
+                                         {1, 1, 0, ASCENDING, NO_FAULT, BAFIROLEN_TODAY},
+                                         {2, 0, 0, ASCENDING, NO_FAULT, BAFIROLEN_TODAY},
+                                         {1, 0, 0, ASCENDING, NO_FAULT, BAFIROLEN_OLD},
                                          {1, 1, MOST_KEYS, ASCENDING, NO_FAULT, BAFIROLEN_TODAY},
                                          {2, 4, MOST_KEYS - 5, ASCENDING, NO_FAULT, BAFIROLEN_TODAY},
                                          {1, 4, MOST_KEYS - 5, ASCENDING, BAD_VALUE, BAFIROLEN_TODAY},
@@ -210,7 +221,7 @@ static void *run_bodies(void *unused)
             for (s.fault = NO_FAULT; s.fault <= MANY_CLAIMED; s.fault++) {
                 s.pairs = pairs_of[i];
                 s.version = 1 + (s.pairs + s.order) % 2;
-                s.keys = s.pairs % 3;
+                s.keys = 1 + s.pairs % 3;
                 /* without pairs all orders are the same, and one of them is of the old form */
                 s.form = s.pairs == 0 && s.order == SHUFFLED ? BAFIROLEN_OLD : BAFIROLEN_TODAY;
                 run_all(s);

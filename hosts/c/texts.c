@@ -9,7 +9,7 @@
 
 #include <stdlib.h>
 
-#define REFUSALS 37
+#define REFUSALS 38
 
 static void text_is(uint64_t number, const char *want)
 {
