@@ -130,7 +130,9 @@ pub fn pairs(
         "the image of the section"
     );
     answers.met(&all_required(random, pairs), wanted.read);
-    bodies(random, answers, (pairs, &[]), wanted);
+    // A body without a key would be refused for that.
+    let key = [b"p".to_vec(), Vec::new(), vec![0xAA]];
+    bodies(random, answers, (pairs, &[key]), wanted);
 }
 
 /// All pairs as what is only authenticated, their keys required in any order.

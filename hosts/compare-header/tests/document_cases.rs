@@ -74,8 +74,8 @@ fn keys() {
     let one = "00 01 00 02 70 31 00 01 61 00 03 AA BB CC";
     let equal = "00 02 00 01 70 00 00 00 00 00 01 70 00 00 00 00";
     let rows: [(&str, Option<u64>, Row); 8] = [
-        ("00 00", None, Ok((0, 2))),
-        ("00 00", Some(0), Ok((0, 2))),
+        ("00 00", None, Err((38, 0))),
+        ("00 00", Some(0), Err((38, 0))),
         (equal, None, Ok((2, 16))),
         (equal, Some(1), Err((15, 0))),
         (one, Some(0), Err((15, 0))),

@@ -3,7 +3,7 @@
 
 use compare_header::answers::Answers;
 use compare_header::{compared, reads, requests};
-use generator::fields::Fields;
+use generator::fields::{back, Fields};
 use generator::large::{agreeing, plain};
 
 /// A content type and a frame length that breaks it.
@@ -18,10 +18,10 @@ const BREACHES: [(u32, u32); 8] = [
     (2, 0),
 ];
 
-/// Headers of a version with each breach, without pairs and keys and with.
+/// Headers of a version with each breach, without pairs and with.
 fn breached(version: u32) -> impl Iterator<Item = Fields> {
     BREACHES.into_iter().flat_map(move |breach| {
-        [(0, 0), (0, 1), (2, 2)].map(|(pairs, keys)| {
+        [(0, 1), (1, 1), (2, 2)].map(|(pairs, keys)| {
             let mut fields = plain(version);
             (fields.content_type, fields.frame_length) = breach;
             fields.pairs = agreeing(3, 1, pairs);
@@ -65,13 +65,44 @@ fn every_cut() {
     );
 }
 
+/// Without a key 20 isn't reached by any reader: 38 comes first, of a header
+/// that is cut behind its key count as well.
+#[test]
+fn without_a_key() {
+    let mut answers = Answers::default();
+    let (mut short, mut refused) = (0, 0);
+    for mut fields in [1, 2].into_iter().flat_map(breached) {
+        fields.keys.clear();
+        let image = fields.image();
+        let counted = image.bytes.len() - back(&fields, [0; 4]).bytes.len();
+        for cut in 0..=image.bytes.len() {
+            let message = &image.bytes[..cut];
+            let (number, position) = match cut < counted {
+                true => (2, image.wanted(0, cut as u64).expect("a shortage")),
+                false => (38, 0),
+            };
+            for request in requests(fields.version) {
+                let (answer, _) = reads::read_header_body(message, 0, request, &[7; 8], &[]);
+                answers.expected(&answer, number, position);
+            }
+            assert_eq!(reads::host_answer(message, 0), (number, position));
+            answers.told(number);
+        }
+        short += counted as u64;
+        refused += (image.bytes.len() + 1 - counted) as u64;
+    }
+    let wanted = [(2, 5 * short), (38, 5 * refused)];
+    answers.assert_are("headers with a frame length off and no key", &wanted);
+}
+
 /// Tables that are too short as well, and other bytes before the header.
 #[test]
 fn short_tables_and_starts() {
     let mut answers = Answers::default();
     let mut headers = 0;
     for fields in [1, 2].into_iter().flat_map(breached) {
-        if fields.pairs.is_empty() {
+        // The tables below are those of two pairs and two keys.
+        if fields.keys.len() < 2 {
             continue;
         }
         let image = fields.image();

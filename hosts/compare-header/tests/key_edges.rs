@@ -1,5 +1,6 @@
 //! Key sections at each edge of the format, one by one.
 
+use compare_header::answers::Answers;
 use compare_header::numbers::number;
 use compare_header::scale::seeds;
 use compare_header::{compared, reads, writes};
@@ -60,15 +61,40 @@ fn maxima_and_tables() {
     compared(count, "reads of key sections by maximum and table");
 }
 
+/// A count of 0, whatever the maximum, the table and what stands behind; and
+/// the cuts of it, which are shortages.
+#[test]
+fn no_key() {
+    let mut random = Random::new(85);
+    let mut answers = Answers::default();
+    for (max, length) in maxima(0)
+        .into_iter()
+        .flat_map(|m| (0..=7).map(move |l| (m, l)))
+    {
+        let table = vec![5; length];
+        for behind in 0..=20 {
+            let mut message = keys(&[]).bytes;
+            message.extend(random.bytes(behind));
+            let (answer, _) = reads::read_encrypted_data_keys_section(&message, 0, max, &table);
+            answers.met(&answer, 38);
+        }
+        for cut in [0, 1] {
+            let message = &[0, 0][..cut];
+            let (answer, _) = reads::read_encrypted_data_keys_section(message, 0, max, &table);
+            answers.short(&answer, 2);
+        }
+    }
+    let wanted = [(2, 9 * 8 * 2), (38, 9 * 8 * 21)];
+    answers.assert_are("key sections without a key", &wanted);
+}
+
 #[test]
 fn counts_off_and_equal_keys() {
     let mut random = Random::new(82);
     let mut count = 0;
     for _ in seeds(10_000) {
         let mut list = fields::keys(&mut random, 6);
-        if let Some(first) = list.first().cloned() {
-            list.push(first);
-        }
+        list.push(list[0].clone());
         let right = list.len() as u16;
         for stored in right.saturating_sub(2)..=right + 2 {
             let mut message = keys_with(&list, stored).bytes;
@@ -76,7 +102,10 @@ fn counts_off_and_equal_keys() {
             message.extend(random.bytes(behind));
             let table = vec![5; 6 * list.len() + 12];
             let (answer, _) = reads::read_encrypted_data_keys_section(&message, 0, None, &table);
-            assert!(stored > right || answer.is_ok());
+            match stored {
+                0 => assert_eq!(number(&answer), 38),
+                _ => assert!(stored > right || answer.is_ok()),
+            }
             count += 1;
         }
     }

@@ -136,7 +136,8 @@ fn hosts() {
         (1_024, 683, 23),
         (1_101, 701, 22),
         (0, 65_535, 23),
-        (MOST, 0, 22),
+        (MOST, 1, 22),
+        (MOST, 0, 38),
     ] {
         for version in [1, 2] {
             let mut fields = plain(version);
@@ -148,5 +149,6 @@ fn hosts() {
             answers.told(wanted);
         }
     }
-    answers.assert_are("large bodies told to a host", &[(0, 2), (22, 6), (23, 4)]);
+    let wanted = [(0, 2), (22, 6), (23, 4), (38, 2)];
+    answers.assert_are("large bodies told to a host", &wanted);
 }

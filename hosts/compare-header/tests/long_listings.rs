@@ -84,6 +84,7 @@ fn many_long_parts() {
     for version in [1, 2] {
         let mut fields = plain(version);
         fields.pairs = agreeing(50, 4, 1_000);
+        fields.keys = vec![key(1)];
         // All outputs of a buffer's size but the largest are too short.
         let listed = list(&mut answers, &fields);
         assert!(listed > 100_000 && listed < 131_072, "{listed}");

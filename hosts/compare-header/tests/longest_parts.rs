@@ -135,17 +135,18 @@ fn longer(right: usize) -> [usize; 6] {
 fn of_fixed_length() {
     let mut answers = Answers::default();
     let out = vec![0x11; 70_000];
+    let a_key = lend(&mut Random::new(164), &[], &[Key::default()]);
     for version in [1, 2] {
         let mut fields = plain(version);
         let (id, suite_data) = (fields.id.len(), fields.suite_data.len());
         for length in longer(id).into_iter().chain([65_535, 65_536]) {
             fields.id = vec![7; length];
-            answers.met(&write_body(&fields, &Default::default(), &out).0, 24);
+            answers.met(&write_body(&fields, &a_key, &out).0, 24);
         }
         fields.id = vec![7; id];
         for length in longer(suite_data).into_iter().chain([65_535, 65_536]) {
             fields.suite_data = vec![7; length];
-            answers.met(&write_body(&fields, &Default::default(), &out).0, 25);
+            answers.met(&write_body(&fields, &a_key, &out).0, 25);
         }
         let suite = fields.suite;
         for length in longer(12).into_iter().chain([65_535, 65_536]) {

@@ -5,8 +5,8 @@ use compare_header::both::{listing, Both};
 use compare_header::{compared, reads};
 use generator::image::OLD_MARKS;
 use generator::rows::{body_lengths, forms, frame_sizes, frame_write_sizes, frame_writes, frames};
-use generator::rows::{header_writes, headers, listings, many_frames, only_authenticated, records};
-use generator::rows::{section_writes, sections, sizes};
+use generator::rows::{header_writes, headers, listings, many_frames, no_key, only_authenticated};
+use generator::rows::{records, section_writes, sections, sizes};
 
 /// None of the rows that a table had is lost.
 fn held(rows: u64, wanted: u64, what: &str) {
@@ -21,7 +21,7 @@ fn headers_read() {
         + headers::an_empty_context_has_two_forms(&Both)
         + headers::each_field_is_tested(&Both)
         + headers::tables_are_tested_last(&Both);
-    held(rows, 5 + 64 + 8 + 38 + 5, "rows of headers");
+    held(rows, 5 + 64 + 8 + 42 + 5, "rows of headers");
 }
 
 #[test]
@@ -36,7 +36,7 @@ fn lengths_of_bodies() {
     let rows = body_lengths::lengths(&Both)
         + body_lengths::refusals(&Both)
         + body_lengths::the_longest(&Both);
-    let wanted = 18 * 4 + 25 * 2 * 3 + 2 * (3 * 4 + 2);
+    let wanted = 18 * 4 + 26 * 2 * 3 + 2 * (3 * 4 + 2);
     held(rows, wanted, "rows of lengths of bodies");
 }
 
@@ -49,7 +49,7 @@ fn forms_of_bodies() {
     let marks = OLD_MARKS.len() as u64;
     let again = 2 * (6 * 4 + (4 * 4 + 2 * 2) * 4);
     let marked = 2 * (4 + 2 * (4 + (4 + 2) * marks) + 3 * 2 * marks + 1);
-    let refused = 2 * 2 * (2 * (13 + 11) + 1) + 2 * 2 * (1 + 11);
+    let refused = 2 * 2 * (2 * (13 + 12) + 1) + 2 * 2 * (1 + 12);
     held(rows, again + marked + refused, "rows of forms");
 }
 
@@ -67,7 +67,25 @@ fn sections_read() {
 fn sections_written() {
     let rows = section_writes::section_writers(&Both)
         + section_writes::counts_and_lengths_of_16_bits(&Both);
-    held(rows, 24 + 8, "rows of sections written");
+    held(rows, 25 + 8, "rows of sections written");
+}
+
+#[test]
+fn without_a_key() {
+    let rows = no_key::sections(&Both)
+        + no_key::every_cut(&Both)
+        + no_key::contexts(&Both)
+        + no_key::fronts(&Both)
+        + no_key::listed(listing);
+    let wanted = 14 * 2 * 2 + (47 + 77) * 21 + 12 * (6 + 4) * 21 + (7 * 21 + 4) + 6;
+    held(rows, wanted, "rows without a key");
+}
+
+#[test]
+fn written_without_a_key() {
+    let rows = no_key::sections_written(&Both) + no_key::bodies_written(&Both);
+    let wanted = 5 * 5 + 2 * 4 * (1 + 15 + 2 * 5) * 3;
+    held(rows, wanted, "rows written without a key");
 }
 
 #[test]
@@ -136,5 +154,5 @@ fn listed() {
         + listings::the_listings_tables_have_limits(listing)
         // The limit is that of reading input; what a host is told has none.
         + listings::the_programs_input_has_a_limit(reference::listing, reads::host_answer);
-    held(rows, 2 + 5 + 4 + 4, "rows of listings");
+    held(rows, 2 + 6 + 4 + 4, "rows of listings");
 }

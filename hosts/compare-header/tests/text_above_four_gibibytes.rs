@@ -48,7 +48,7 @@ fn write_pairs(answers: &mut Answers, text: &[u8], pairs: &[u32], wanted: u32) {
         let image = section(&pairs_at(text, pairs), Form::Today).bytes;
         assert!(out.starts_with(&image), "the section's image");
     }
-    write_bodies(answers, text, pairs, &[], wanted);
+    write_bodies(answers, text, pairs, &KEYS[..6], wanted);
 }
 
 fn write_keys(answers: &mut Answers, text: &[u8], table: &[u32], wanted: u32) {

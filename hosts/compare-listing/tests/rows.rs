@@ -3,7 +3,7 @@
 //! beside the other operations.
 
 use compare_listing::{compared, program};
-use generator::rows::listings;
+use generator::rows::{listings, no_key};
 use reference::host_answer;
 
 #[test]
@@ -11,7 +11,8 @@ fn hand_written_rows() {
     let rows = listings::header_h_is_listed(program, host_answer)
         + listings::refusals_are_listed(program)
         + listings::the_listings_tables_have_limits(program)
-        + listings::the_programs_input_has_a_limit(program, host_answer);
-    assert_eq!(rows, 2 + 5 + 4 + 4);
+        + listings::the_programs_input_has_a_limit(program, host_answer)
+        + no_key::listed(program);
+    assert_eq!(rows, 2 + 6 + 4 + 4 + 6);
     compared(rows, "rows of listings by the program");
 }

@@ -35,9 +35,9 @@ pub struct BodyCase {
 /// difference to some versions.
 const FAULTS: [u32; 12] = [3, 4, 5, 6, 7, 15, 17, 18, 19, 20, 22, 23];
 
-/// The order in which a reader meets refusals; sections have 8 and 16 stand
-/// for all of theirs.
-const ORDER: [u32; 14] = [3, 4, 5, 6, 7, 8, 15, 16, 17, 18, 19, 20, 22, 23];
+/// The order in which a reader meets refusals; 8 stands for all of a context
+/// section's.
+const ORDER: [u32; 15] = [3, 4, 5, 6, 7, 8, 38, 15, 16, 17, 18, 19, 20, 22, 23];
 
 /// A reader that takes the version.
 fn reader(random: &mut Random, version: u32) -> Reader {
@@ -90,16 +90,27 @@ pub fn body_case(seed: u64) -> BodyCase {
     }
 }
 
-/// An intact body that is cut, or read from a wrong start.
+/// An intact body, or one whose only fault is that it has no key, that is cut
+/// or read from a wrong start.
 fn misplaced(random: &mut Random) -> BodyCase {
-    let fields = fields(random);
+    let mut fields = fields(random);
+    if random.one_in(8) {
+        fields.keys.clear();
+    }
     let image = fields.image();
     let placed = match random.below(8) {
         0 => start_past(random, &image, 1),
         1 => start_too_large(random, &image),
         _ => cut(random, &image),
     };
+    let behind = back(&fields, [0; 4]).bytes.len();
+    let front = image.bytes.len() - behind;
+    let counted = placed.start.saturating_add(front as u64);
     let expected = match placed.fault {
+        // The count is there, and what is wanted behind it isn't looked for.
+        Some((2, position)) if fields.keys.is_empty() && position > counted => {
+            Expected::Refused(38, 0)
+        }
         Some((number, position)) => Expected::Refused(number, position),
         None => Expected::Open,
     };
@@ -156,9 +167,10 @@ fn faulty(random: &mut Random) -> BodyCase {
         _ => sections::Kind::Intact,
     };
     let section = sections::build(random, kind);
-    let key_kind = match random.below(12) {
-        0 => random.pick(&key_cases::KINDS),
+    let key_kind = match random.below(24) {
+        0 => key_cases::kind(random),
         1 => key_cases::Kind::BadProvider,
+        2 => key_cases::Kind::NoKey,
         _ => key_cases::Kind::Intact,
     };
     let keys = key_cases::build(random, key_kind);
@@ -217,11 +229,11 @@ fn faulty(random: &mut Random) -> BodyCase {
                 Verdict::Refused(number) => Expected::Refused(number, 0),
                 Verdict::Open => Expected::Open,
             },
-            15 if keys.open => Expected::Open,
-            16 if keys.refused.is_some() => Expected::Refused(16, 0),
+            38 if keys.open => Expected::Open,
+            38 | 16 if keys.refused == Some(step) => Expected::Refused(step, 0),
             // Met by the reader of either version alone.
             20 if has(20) && reader == Reader::Either => Expected::Refused(20, 0),
-            20 | 16 => continue,
+            20 | 16 | 38 => continue,
             number if has(number) => Expected::Refused(number, 0),
             _ => continue,
         };

@@ -134,13 +134,12 @@ fn near_key(random: &mut Random, pairs: &[Pair]) -> Vec<u8> {
     key
 }
 
-/// Keys, some of them equal.
+/// Keys, at least one, some of them equal.
 pub fn keys(random: &mut Random, most: usize) -> Vec<Key> {
     let count = match random.below(8) {
-        0 => 0,
-        1..=4 => 1,
-        5 | 6 => random.index(most.min(4) + 1),
-        _ => random.index(most + 1),
+        0..=4 => 1,
+        5 | 6 => 1 + random.index(most.min(4)),
+        _ => 1 + random.index(most),
     };
     let mut keys: Vec<Key> = Vec::with_capacity(count);
     while keys.len() < count {

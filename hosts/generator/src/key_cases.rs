@@ -28,6 +28,7 @@ pub enum Kind {
     CountDown,
     EntryLength,
     BadProvider,
+    NoKey,
     Noise,
 }
 
@@ -40,27 +41,34 @@ pub struct KeySection {
     pub open: bool,
 }
 
-pub const KINDS: [Kind; 9] = [
-    Kind::Intact,
-    Kind::Intact,
-    Kind::Intact,
+const DAMAGED: [Kind; 7] = [
     Kind::BitFlips,
     Kind::CountUp,
     Kind::CountDown,
     Kind::EntryLength,
     Kind::BadProvider,
+    Kind::NoKey,
     Kind::Noise,
 ];
+
+/// A kind; every other one is intact.
+pub fn kind(random: &mut Random) -> Kind {
+    match random.one_in(2) {
+        true => Kind::Intact,
+        false => random.pick(&DAMAGED),
+    }
+}
 
 /// A key section of the kind asked for.
 pub fn build(random: &mut Random, kind: Kind) -> KeySection {
     let mut list = fields::keys(random, 12);
-    if kind != Kind::Intact && list.is_empty() {
-        list.push([b"p".to_vec(), Vec::new(), random.bytes(3)]);
-    }
-    if kind == Kind::BadProvider {
-        let at = random.index(list.len());
-        list[at][0] = bad_text(random);
+    match kind {
+        Kind::NoKey => list.clear(),
+        Kind::BadProvider => {
+            let at = random.index(list.len());
+            list[at][0] = bad_text(random);
+        }
+        _ => {}
     }
     let mut image = keys(&list);
     let count = list.len() as u16;
@@ -76,13 +84,18 @@ pub fn build(random: &mut Random, kind: Kind) -> KeySection {
             let length = random.length(60);
             image.bytes = random.bytes(length);
         }
-        Kind::Intact | Kind::BadProvider => {}
+        Kind::Intact | Kind::BadProvider | Kind::NoKey => {}
     }
+    let refused = match kind {
+        Kind::NoKey => Some(38),
+        Kind::BadProvider => Some(16),
+        _ => None,
+    };
     KeySection {
         image,
         keys: list,
-        refused: (kind == Kind::BadProvider).then_some(16),
-        open: !matches!(kind, Kind::Intact | Kind::BadProvider),
+        refused,
+        open: refused.is_none() && kind != Kind::Intact,
     }
 }
 
@@ -109,10 +122,11 @@ pub fn key_case(seed: u64) -> KeyCase {
     let mut random = Random::new(seed);
     let random = &mut random;
     let placing = random.below(16);
-    let kind = if placing <= 5 {
-        Kind::Intact
-    } else {
-        random.pick(&KINDS)
+    let kind = match placing {
+        // A section without a key is short up to the end of its count alone.
+        0..=5 if random.one_in(12) => Kind::NoKey,
+        0..=5 => Kind::Intact,
+        _ => kind(random),
     };
     let section = build(random, kind);
     let placed = match placing {

@@ -18,7 +18,8 @@ pub fn zeros(length: usize) -> Vec<u8> {
     vec![0; length]
 }
 
-/// Fields of a version without pairs and keys, framed, in today's form.
+/// Fields of a version without pairs and keys, framed, in today's form. They
+/// lack nothing but a key.
 pub fn plain(version: u32) -> Fields {
     let first = version == 1;
     let id_length = if first { 16 } else { 32 };

@@ -63,15 +63,18 @@ pub fn pairs_to_write(random: &mut Random) -> (Vec<Pair>, Option<u32>) {
     (pairs, number)
 }
 
-/// Keys to write, and the number of the fault in them.
+/// Keys to write, and the number of the fault in them, or of having none.
 pub fn keys_to_write(random: &mut Random) -> (Vec<Key>, Option<u32>) {
     let mut keys = fields::keys(random, 12);
-    if keys.is_empty() || !random.one_in(5) {
-        return (keys, None);
+    match random.below(12) {
+        0 => (Vec::new(), Some(38)),
+        1 => {
+            let at = random.index(keys.len());
+            keys[at][0] = bad_text(random);
+            (keys, Some(16))
+        }
+        _ => (keys, None),
     }
-    let at = random.index(keys.len());
-    keys[at][0] = bad_text(random);
-    (keys, Some(16))
 }
 
 /// Faults put into a table, with the number the writer meets first.

@@ -41,11 +41,14 @@ impl Section {
     }
 }
 
-/// All tests of a key section but 1 and 23, in order. The maximum is tested
-/// on the count alone, before any key is read. No length is stored for the
-/// section, so its entries have no end to go past.
+/// All tests of a key section but 1 and 23, in order. The count is tested
+/// before any key is read, against 0 and then against the maximum. No length
+/// is stored for the section, so its entries have no end to go past.
 pub(crate) fn walk(message: &[u8], start: u64, max: Option<u64>) -> Result<Section, Refusal> {
     let (count, first_key) = read_u16(message, start)?;
+    if count == 0 {
+        return Err(Refusal::of(NO_DATA_KEY));
+    }
     if max.is_some_and(|max| u64::from(count) > max) {
         return Err(Refusal::of(ABOVE_MAXIMUM));
     }
@@ -65,7 +68,7 @@ pub(crate) fn walk(message: &[u8], start: u64, max: Option<u64>) -> Result<Secti
     })
 }
 
-/// Reads a key section: 1; 2 at the count; 15; per key 2, 16, 2, 2; 23.
+/// Reads a key section: 1; 2 at the count; 38; 15; per key 2, 16, 2, 2; 23.
 pub fn read_encrypted_data_keys_section(
     message: &[u8],
     start: u64,
@@ -87,6 +90,9 @@ pub fn read_encrypted_data_keys_section(
 /// All tests of the keys but 28, in order; answers the section's length.
 pub(crate) fn test_keys(text: &[u8], keys: &[u32]) -> Result<u64, Refusal> {
     let total = test_table(text, keys, NUMBERS_A_KEY)?;
+    if keys.is_empty() {
+        return Err(Refusal::of(NO_DATA_KEY));
+    }
     for key in keys.chunks_exact(NUMBERS_A_KEY) {
         if !is_utf8(text_part(text, key)) {
             return Err(Refusal::of(PROVIDER_NOT_UTF8));
@@ -106,7 +112,7 @@ pub(crate) fn put_section(text: &[u8], keys: &[u32], out: &mut [u8]) -> usize {
 }
 
 /// Writes a key section from the output's first byte; answers its length.
-/// 26; 27; per key 16; 28.
+/// 26; 27; 38; per key 16; 28.
 pub fn write_encrypted_data_keys_section(
     text: &[u8],
     keys: &[u32],

@@ -14,7 +14,7 @@ fn lengths() {
 #[test]
 fn refusals() {
     let rows = body_lengths::refusals(&Reference);
-    report_rows("lengths refused", rows, 25 * 2 * 3);
+    report_rows("lengths refused", rows, 26 * 2 * 3);
 }
 
 #[test]

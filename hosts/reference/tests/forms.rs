@@ -25,11 +25,11 @@ fn every_mark() {
 #[test]
 fn a_pair_in_the_old_form() {
     let rows = forms::a_pair_in_the_old_form(&Reference);
-    report_rows("a pair in the old form", rows, 2 * 2 * (2 * (13 + 11) + 1));
+    report_rows("a pair in the old form", rows, 2 * 2 * (2 * (13 + 12) + 1));
 }
 
 #[test]
 fn no_pair_in_the_old_form() {
     let rows = forms::no_pair_in_the_old_form(&Reference);
-    report_rows("no pair in the old form", rows, 2 * 2 * (1 + 11));
+    report_rows("no pair in the old form", rows, 2 * 2 * (1 + 12));
 }

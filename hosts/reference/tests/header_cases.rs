@@ -24,7 +24,7 @@ fn an_empty_context_has_two_forms() {
 
 #[test]
 fn each_field_is_tested() {
-    report_rows("each field", headers::each_field_is_tested(&Reference), 38);
+    report_rows("each field", headers::each_field_is_tested(&Reference), 42);
 }
 
 #[test]

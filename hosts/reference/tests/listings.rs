@@ -18,7 +18,7 @@ fn header_h_is_listed() {
 #[test]
 fn refusals_are_listed() {
     let rows = listings::refusals_are_listed(listing);
-    report_rows("refusals listed", rows, 5);
+    report_rows("refusals listed", rows, 6);
 }
 
 #[test]

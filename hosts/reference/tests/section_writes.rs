@@ -8,7 +8,7 @@ use generator::rows::section_writes;
 #[test]
 fn section_writers() {
     let rows = section_writes::section_writers(&Reference);
-    report_rows("section writers", rows, 24);
+    report_rows("section writers", rows, 25);
 }
 
 #[test]

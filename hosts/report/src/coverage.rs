@@ -3,8 +3,8 @@
 use crate::{listed, say};
 use std::collections::{BTreeMap, BTreeSet};
 
-/// The refusals are 1 to 37.
-const NUMBERS: usize = 38;
+/// The refusals are 1 to 38.
+const NUMBERS: usize = 39;
 
 /// Answers counted by operation; column 0 is acceptance.
 #[derive(Default)]

@@ -18,7 +18,7 @@ fn the_numbers_of_refusals() {
                 .expect("a number")
         })
         .collect();
-    assert!(numbers.into_iter().eq(0..=37));
+    assert!(numbers.into_iter().eq(0..=38));
 }
 
 /// Each function that refuses, and the operations that its list is of.

@@ -57,7 +57,7 @@ fn the_table_of_refusals() {
         .map(cells)
         .collect();
     let numbers: Vec<u32> = rows.iter().map(|row| row[0].parse().unwrap()).collect();
-    assert!(numbers.iter().copied().eq(1..=37));
+    assert!(numbers.iter().copied().eq(1..=38));
     for (at, (_, operations)) in COLUMNS.iter().enumerate() {
         for operation in *operations {
             let listed = LISTED.iter().find(|(name, _)| name == operation);

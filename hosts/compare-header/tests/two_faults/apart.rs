@@ -8,6 +8,7 @@ const LENGTH: &str = "how much the second wants is in the bytes that are wanted"
 
 const EMPTY: &str = "a section of length 2 has no pairs to end in";
 const NO_FRAME: &str = "there is no frame to have another fault";
+const NO_KEY: &str = "there is no key to have another fault";
 const ENDS: &str = "a section that ends in its pairs doesn't end behind them";
 
 /// Neighbours that only what they mean keeps apart.
@@ -29,6 +30,8 @@ pub const NAMED: &[(&str, &str, &str)] = &[
     ("26 keys in sixes", "26 key place", "one test"),
     ("27 pair count", "27 pair part", "one test"),
     ("27 key count", "27 key part", "one test"),
+    ("27 key part", "38 no key", "a part is one of a key's"),
+    ("38 no key", "15 maximum", "a count of 0 is above none"),
     ("31 required in twos", "31 required place", "one test"),
     ("26 frames in sixes", "26 frame place", "one test"),
     (
@@ -54,6 +57,8 @@ pub const FARTHER: &[(&str, &str, &str)] = &[
     ),
     ("26 pair place", "10 key 4", "no bytes are there"),
     ("26 pair place", "12 key 4", "no bytes are there"),
+    ("26 key place", "38 no key", "a place is one of a key's"),
+    ("27 key count", "38 no key", "there are too many, or none"),
 ];
 
 /// Shortages that leave what the second looks at: a section's length decides
@@ -74,6 +79,12 @@ fn in_a_pair(name: &str) -> bool {
         .any(|head| name.starts_with(head))
 }
 
+fn of_a_key(name: &str) -> bool {
+    ["provider ", "info ", "ciphertext ", "key table"]
+        .iter()
+        .any(|part| name.contains(part))
+}
+
 /// Why two faults never hold of one request, if they don't.
 pub fn apart(first: &str, second: &str) -> Option<&'static str> {
     if SEEN.contains(&(first, second)) {
@@ -89,6 +100,7 @@ pub fn apart(first: &str, second: &str) -> Option<&'static str> {
         (8 | 21, 32) if in_a_pair(second) => Some(EMPTY),
         (32, 14) => Some(ENDS),
         (36, _) => Some(NO_FRAME),
+        (38, _) if of_a_key(second) => Some(NO_KEY),
         _ => NAMED
             .iter()
             .chain(FARTHER)

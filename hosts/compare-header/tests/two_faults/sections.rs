@@ -47,6 +47,7 @@ fn pair(at: usize) -> Faults {
 pub fn keys() -> Faults {
     let mut list = vec![
         read("2 key count", |d| d.cut(Area::Keys, 0)),
+        read("38 no key", |d| d.no_key()),
         read("15 maximum", |d| d.max = Some(1)),
     ];
     list.extend(key(0));

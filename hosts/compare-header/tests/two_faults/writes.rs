@@ -50,15 +50,12 @@ fn pair(at: usize) -> Faults {
 fn keys() -> Faults {
     vec![
         write("26 keys in sixes", |d| d.keys.push(0)),
-        write("26 key place", |d| {
-            WriteDraft::outside(&mut d.keys, 5, &d.text)
-        }),
+        write("26 key place", |d| d.key_outside()),
         write("27 key count", |d| WriteDraft::too_many(&mut d.keys, 6)),
-        write("27 key part", |d| {
-            WriteDraft::long_part(&mut d.keys, 4, 65_536)
-        }),
-        write("16 provider 1", |d| WriteDraft::bad_part(&mut d.keys, 0)),
-        write("16 provider 2", |d| WriteDraft::bad_part(&mut d.keys, 3)),
+        write("27 key part", |d| d.long_key_part()),
+        write("38 no key", |d| d.no_key()),
+        write("16 provider 1", |d| d.bad_provider(0)),
+        write("16 provider 2", |d| d.bad_provider(1)),
     ]
 }
 

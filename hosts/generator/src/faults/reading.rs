@@ -31,6 +31,7 @@ pub struct ReadDraft {
     pub section_length: Option<u16>,
     pub pair_count: Option<u16>,
     without_pairs: bool,
+    without_keys: bool,
     pub reserved: [u8; 4],
     cut: Option<(Area, usize)>,
     pub start: u64,
@@ -73,6 +74,7 @@ impl ReadDraft {
             section_length: None,
             pair_count: None,
             without_pairs: false,
+            without_keys: false,
             reserved: [0; 4],
             cut: None,
             start: BEFORE as u64,
@@ -118,6 +120,7 @@ impl ReadDraft {
                 let count = self.pair_count.unwrap_or(pairs.len() as u16);
                 section_with(pairs, length, count)
             }
+            Area::Keys if self.without_keys => keys(&[]),
             Area::Keys => keys(&fields.keys),
             Area::Back => back(fields, self.reserved),
         }
@@ -140,14 +143,17 @@ impl ReadDraft {
         message
     }
 
-    /// Where the read that is cut ends.
+    /// Where the read that is cut ends. Of a key that isn't there, the first
+    /// byte would be behind the count.
     fn wanted(&self) -> usize {
         let Some((cut, read)) = self.cut else {
             return 0;
         };
         let before = self.areas.iter().take_while(|&&area| area != cut);
         let before: usize = before.map(|&area| self.image(area).bytes.len()).sum();
-        BEFORE + before + self.image(cut).stops[read] as usize
+        let image = self.image(cut);
+        let stop = image.stops.get(read).map(|&stop| stop as usize);
+        BEFORE + before + stop.unwrap_or(image.bytes.len() + 1)
     }
 
     /// The message ends a byte before the end of this read; one that ends
@@ -199,6 +205,11 @@ impl ReadDraft {
             true => &[],
             false => &self.fields.pairs,
         }
+    }
+
+    /// A count of 0, and no key behind it.
+    pub fn no_key(&mut self) {
+        self.without_keys = true;
     }
 
     /// The stored length goes a byte beyond the pairs.

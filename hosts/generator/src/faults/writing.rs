@@ -21,6 +21,7 @@ pub struct WriteDraft {
 }
 
 const PAIRS: usize = 4;
+const NUMBERS_A_KEY: usize = 6;
 const PART: usize = 4;
 const PARTS: usize = 14;
 /// Where the text has no UTF-8.
@@ -41,6 +42,10 @@ fn places(parts: std::ops::Range<usize>) -> Vec<u32> {
         .collect()
 }
 
+fn both_keys() -> Vec<u32> {
+    places(8..14)
+}
+
 impl WriteDraft {
     fn new(version: u32, length: usize) -> WriteDraft {
         let fields = sound_fields(version);
@@ -53,7 +58,7 @@ impl WriteDraft {
             suite_data: fields.suite_data,
             text,
             pairs: places(0..8),
-            keys: places(8..14),
+            keys: both_keys(),
             room: length,
         }
     }
@@ -133,6 +138,41 @@ impl WriteDraft {
             table[2 * part] = LONG;
         }
         table[2 * part + 1] = length.max(table[2 * part + 1]);
+    }
+
+    /// No key, and what the table has beyond whole ones. The output just holds
+    /// what is left.
+    pub fn no_key(&mut self) {
+        let whole = self.keys.len() / NUMBERS_A_KEY * NUMBERS_A_KEY;
+        let lengths = self.keys.drain(..whole).skip(1).step_by(2);
+        let taken: usize = lengths.map(|length| 2 + length as usize).sum();
+        self.room = self.room.saturating_sub(taken);
+    }
+
+    /// Both keys are put where there is none, to have a fault.
+    fn some_key(&mut self) {
+        if self.keys.len() < NUMBERS_A_KEY {
+            self.keys.splice(..0, both_keys());
+        }
+    }
+
+    /// The last ciphertext is a byte behind the text.
+    pub fn key_outside(&mut self) {
+        self.some_key();
+        WriteDraft::outside(&mut self.keys, 5, &self.text);
+    }
+
+    /// The provider info of the second key is a byte too long.
+    pub fn long_key_part(&mut self) {
+        self.some_key();
+        WriteDraft::long_part(&mut self.keys, 4, 65_536);
+    }
+
+    /// A provider ID that isn't UTF-8, if the table has a key.
+    pub fn bad_provider(&mut self, key: usize) {
+        if self.keys.len() >= NUMBERS_A_KEY {
+            WriteDraft::bad_part(&mut self.keys, 3 * key);
+        }
     }
 }
 

@@ -4,25 +4,27 @@
 use super::{Codec, Lent};
 use crate::large::LONGEST;
 
-const TEXT: &[u8] = b"langcyp1a\xAA\xBB\xCC";
+pub(super) const TEXT: &[u8] = b"langcyp1a\xAA\xBB\xCC";
 
 /// "lang" and "cy"; "p1", "a" and AA BB CC.
-const PAIR: &[u32] = &[0, 4, 4, 2];
-const KEY: &[u32] = &[6, 2, 8, 1, 9, 3];
+pub(super) const PAIR: &[u32] = &[0, 4, 4, 2];
+pub(super) const KEY: &[u32] = &[6, 2, 8, 1, 9, 3];
+/// A key of empty parts, of which the lengths alone are written.
+const EMPTY_KEY: &[u32] = &[0; 6];
 
-/// A version, the mark of a form, pairs and keys, and the length. Without
-/// pairs and keys it is 34 or 76 today, and 2 more in the old form.
+/// A version, the mark of a form, pairs and keys, and the length. Beside pairs
+/// and keys it is 34 or 76 today, and 2 more in the old form.
 type Row<'a> = (u32, u32, &'a [u32], &'a [u32], u64);
 
 const LENGTHS: [Row; 18] = [
-    (1, 0, &[], &[], 34),
-    (2, 0, &[], &[], 76),
-    (1, 1, &[], &[], 36),
-    (2, 1, &[], &[], 78),
-    (1, 0x100, &[], &[], 36),
-    (2, u32::MAX, &[], &[], 78),
-    (1, 0, PAIR, &[], 34 + 2 + 10),
-    (2, 0, PAIR, &[], 76 + 2 + 10),
+    (1, 0, &[], EMPTY_KEY, 34 + 6),
+    (2, 0, &[], EMPTY_KEY, 76 + 6),
+    (1, 1, &[], EMPTY_KEY, 36 + 6),
+    (2, 1, &[], EMPTY_KEY, 78 + 6),
+    (1, 0x100, &[], EMPTY_KEY, 36 + 6),
+    (2, u32::MAX, &[], EMPTY_KEY, 78 + 6),
+    (1, 0, PAIR, EMPTY_KEY, 34 + 2 + 10 + 6),
+    (2, 0, PAIR, EMPTY_KEY, 76 + 2 + 10 + 6),
     (1, 0, &[], KEY, 34 + 12),
     (2, 0, &[], KEY, 76 + 12),
     (1, 1, &[], KEY, 36 + 12),
@@ -49,8 +51,8 @@ const LENGTHS: [Row; 18] = [
     (2, 1, &[], &[6, 2, 8, 1, 9, 3, 6, 2, 8, 1, 9, 3], 78 + 24),
 ];
 
-/// What a sound body of a version is written from.
-fn sound(version: u32, mark: u32) -> Lent<'static> {
+/// What a body of a version is written from, which lacks nothing but a key.
+pub(super) fn bare(version: u32, mark: u32) -> Lent<'static> {
     let (numbers, id, suite_data): (_, _, &[u8]) = match version {
         1 => ([1, 0x80, 0x0178, 2, 12, 4096, mark], 16, &[]),
         _ => ([2, 0, 0x0578, 1, 0, 0, mark], 32, &[8; 32]),
@@ -86,7 +88,7 @@ fn takes(codec: &impl Codec, lent: Lent, length: u64) -> u64 {
 
 /// The refusal, of the length, and of the writer without room and with plenty.
 /// Answers how many answers these are.
-fn refuses(codec: &impl Codec, lent: Lent, number: u32) -> u64 {
+pub(super) fn refuses(codec: &impl Codec, lent: Lent, number: u32) -> u64 {
     assert_eq!(codec.body_len(lent), Err((number, 0)), "{number}");
     writes(codec, lent, 0, Err(number));
     writes(codec, lent, 400, Err(number));
@@ -96,7 +98,7 @@ fn refuses(codec: &impl Codec, lent: Lent, number: u32) -> u64 {
 pub fn lengths(codec: &impl Codec) -> u64 {
     let mut compared = 0;
     for (version, mark, pairs, keys, length) in LENGTHS {
-        let lent = sound(version, mark);
+        let lent = bare(version, mark);
         compared += takes(
             codec,
             Lent {
@@ -114,7 +116,7 @@ pub fn lengths(codec: &impl Codec) -> u64 {
 /// text goes on with letters. They stand in the order of tests.
 type Fault = (u32, fn(&mut Lent));
 
-const FAULTS: [Fault; 25] = [
+const FAULTS: [Fault; 26] = [
     (3, |lent| lent.numbers[0] = 3),
     (3, |lent| lent.numbers[0] = 257),
     (5, |lent| lent.numbers[1] = 0),
@@ -134,6 +136,7 @@ const FAULTS: [Fault; 25] = [
     (33, |lent| lent.numbers[6] = 0x1_0000),
     (26, |lent| lent.keys = &[6, 2, 8, 1]),
     (27, |lent| lent.keys = &[6, 2, 8, 1, 12, 65_536]),
+    (38, |lent| lent.keys = &[]),
     (16, |lent| lent.keys = &[9, 3, 8, 1, 6, 2]),
     (17, |lent| lent.numbers[3] = 0x102),
     (19, |lent| lent.numbers[4] = 0),
@@ -152,7 +155,7 @@ pub fn refusals(codec: &impl Codec) -> u64 {
             text: &text,
             pairs: PAIR,
             keys: KEY,
-            ..sound(1, 0)
+            ..bare(1, 0)
         };
         plant(&mut lent);
         compared += refuses(codec, lent, number);
@@ -175,21 +178,21 @@ pub fn the_longest(codec: &impl Codec) -> u64 {
     // Every part but the provider ID, which would be tested each time.
     let keys = [0, 0, 0, whole, 0, whole].repeat(LONGEST);
     let mut compared = 0;
-    for (version, bare) in [(1, 34), (2, 76)] {
+    for (version, beside) in [(1, 34), (2, 76)] {
         let text = &text;
         let lent = |pairs, keys| Lent {
             text,
             pairs,
             keys,
-            ..sound(version, 0)
+            ..bare(version, 0)
         };
         // Pairs of 65,533 bytes, of which 4 are lengths.
         let pairs: &[u32] = &[0, 65_000, 0, 529];
-        compared += takes(codec, lent(pairs, &[]), bare + 2 + 65_533);
-        compared += takes(codec, lent(&[], &key), bare + 6 + 3 * 65_535);
-        compared += takes(codec, lent(&[], &empty), bare + 6 * 65_535);
+        compared += takes(codec, lent(pairs, EMPTY_KEY), beside + 2 + 65_533 + 6);
+        compared += takes(codec, lent(&[], &key), beside + 6 + 3 * 65_535);
+        compared += takes(codec, lent(&[], &empty), beside + 6 * 65_535);
         let lent = lent(pairs, &keys);
-        let length = bare + 2 + 65_533 + 65_535 * (6 + 2 * 65_535);
+        let length = beside + 2 + 65_533 + 65_535 * (6 + 2 * 65_535);
         assert_eq!(codec.body_len(lent), Ok(length));
         // What 32 bits keep of that length is no room.
         writes(codec, lent, length & 0xFFFF_FFFF, Err(28));

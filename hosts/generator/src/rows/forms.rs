@@ -196,12 +196,13 @@ const BEFORE: [Fault; 13] = [
 ];
 
 /// Those that are tested after it, the keys' first.
-const AFTER: [Fault; 11] = [
+const AFTER: [Fault; 12] = [
     (26, |d| d.keys.push(0)),
-    (26, |d| WriteDraft::outside(&mut d.keys, 5, &d.text)),
+    (26, |d| d.key_outside()),
     (27, |d| WriteDraft::too_many(&mut d.keys, 6)),
-    (27, |d| WriteDraft::long_part(&mut d.keys, 4, 65_536)),
-    (16, |d| WriteDraft::bad_part(&mut d.keys, 0)),
+    (27, |d| d.long_key_part()),
+    (38, |d| d.no_key()),
+    (16, |d| d.bad_provider(0)),
     (17, |d| d.numbers[3] = 3),
     (19, |d| d.numbers[4] += 1),
     (25, |d| d.suite_data.push(0)),

@@ -95,7 +95,7 @@ pub fn an_empty_context_has_two_forms(codec: &impl Codec) -> u64 {
 /// Version, place, byte, either-version reader, one-version reader.
 type Field = (u32, usize, u8, u32, u32);
 
-const FIELDS: [Field; 19] = [
+const FIELDS: [Field; 21] = [
     (1, 0, 0, 3, 3),
     (1, 0, 3, 3, 3),
     (1, 0, 2, 6, 4),
@@ -103,6 +103,7 @@ const FIELDS: [Field; 19] = [
     (1, 3, 0x79, 6, 6),
     (1, 2, 0x04, 7, 7),
     (1, 2, 0x05, 7, 7),
+    (1, 35, 0, 38, 38),
     (1, 48, 0, 17, 17),
     (1, 48, 3, 17, 17),
     (1, 48, 1, 20, 0),
@@ -113,6 +114,7 @@ const FIELDS: [Field; 19] = [
     (2, 0, 1, 5, 4),
     (2, 1, 0x01, 7, 7),
     (2, 2, 0x79, 6, 6),
+    (2, 38, 0, 38, 38),
     (2, 48, 2, 20, 0),
     (2, 52, 1, 20, 0),
 ];

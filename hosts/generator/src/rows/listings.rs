@@ -36,10 +36,13 @@ pub fn refusals_are_listed(listing: impl List) -> u64 {
     let h = header_h();
     let mut zero = h.clone();
     zero[56] = 0;
+    let mut no_key = h.clone();
+    no_key[35] = 0;
     let rows = [
         (&h[..57], refused(2, 58)),
         (&h[..22], refused(2, 34)),
         (&[][..], refused(2, 1)),
+        (&no_key[..], refused(38, 0)),
         (&zero[..], refused(20, 0)),
         (&[0][..], refused(3, 0)),
     ];

@@ -16,6 +16,7 @@ pub mod headers;
 pub mod leaves;
 pub mod listings;
 pub mod many_frames;
+pub mod no_key;
 pub mod only_authenticated;
 pub mod records;
 pub mod section_ends;

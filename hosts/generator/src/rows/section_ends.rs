@@ -8,6 +8,7 @@ use crate::headers::{header_h_with, header_v2_with, hex};
 use crate::image::{keys, only_authenticated};
 use crate::large::plain;
 use crate::section_ends::{sections, Ended};
+use crate::Key;
 
 /// The sections that document 02 names for 32, but for the longest.
 const NAMED: [&str; 4] = [
@@ -130,7 +131,7 @@ pub fn of_bodies(codec: &impl Codec) -> u64 {
         for version in [1, 2] {
             let fields = plain(version);
             let front = front(&fields).bytes;
-            let mut rest = keys(&[]);
+            let mut rest = keys(&[Key::default()]);
             rest.image(&back(&fields, [0; 4]));
             for behind in [None, Some(&rest.bytes[..])] {
                 let mut message = message(ended, behind);

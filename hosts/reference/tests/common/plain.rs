@@ -1,7 +1,6 @@
 //! A slow second opinion: the source's readers line by line, with the refusals
-//! that later requests put in front of theirs, and frames as document 02 has
-//! them, on owned bytes, with std's UTF-8 and a search of a list for earlier
-//! keys.
+//! that later requests put among theirs, and frames as document 02 has them, on
+//! owned bytes, with std's UTF-8 and a search of a list for earlier keys.
 
 use std::str::from_utf8;
 
@@ -101,6 +100,7 @@ pub fn section(buffer: &mut Buffer, strict: bool) -> Result<Vec<Part>, No> {
 
 pub fn keys(buffer: &mut Buffer, max: Option<u64>) -> Result<Vec<Part>, No> {
     let count = buffer.number(2)?;
+    need(count > 0, 38)?;
     if let Some(max) = max {
         need(count <= u128::from(max), 15)?;
     }

@@ -86,6 +86,7 @@ pub fn only_authenticated(
 
 pub fn write_keys(text: &[u8], table: &[u32]) -> Result<Vec<u8>, No> {
     let parts = lent(text, table, 6)?;
+    need(!parts.is_empty(), 38)?;
     let mut out = ((parts.len() / 3) as u16).to_be_bytes().to_vec();
     for key in parts.chunks(3) {
         need(from_utf8(&key[0]).is_ok(), 16)?;
