@@ -2,17 +2,18 @@
 use mathlib.Core.Path.{_≡_, refl, sym, ap, _∙_}
 use mathlib.Core.Bool.{Bool, true, false, not, cond, _&&_, _||_}
 use mathlib.Core.Option.{none}
-use mathlib.Core.List.{List, [], _∷_, _++_}
+use mathlib.Core.List.{List, [], _∷_, _++_, map}
 use Prim.Native.Nat.{ℕ, suc, _+_, _<_}
 use native.Mathlib.Omega.{arith}
 use lib.Dec.{leb, ltb, eqb}
-use lib.ListN.{length}
+use lib.ListN.{length, take}
 use Rattle.format.specs.Serialize.{images, every, sum}
 use Rattle.format.specs.Shared.{SuiteRow, suites, version-in, known, frame-fits}
 use Rattle.format.specs.Fields.{Form, Pair, EncryptedDataKey, Fields, pair-parts, key-parts}
 use Rattle.format.specs.Context.{pair-length, linear-length, pairs-limit}
 use Rattle.format.specs.Body.{either, Request}
 use Rattle.format.specs.Checks.{Check, check, first, each, has-uint16-len, count-checks, pair-checks, key-checks, pairs-checks, keys-checks, opening-checks, closing-checks, fits-form, form-checks, body-checks, Accepts}
+use Rattle.format.specs.Pinned.{check-number}
 use Rattle.format.proofs.Tests.{leb-is, is-leb, eqb-is, is-eqb}
 use Rattle.format.proofs.Exact.{Oks}
 use Rattle.format.proofs.Serialize.{Short}
@@ -104,6 +105,11 @@ then-pairs ps few o =
     let p = pairs-pass [] ps o in
     let room : linear-length [] + linear-length ps < pairs-limit = room-all [] ps (omega arith) o in
     (leb-is (length ps) 65535 (omega arith), (p .0, join (each pair-checks [] ps) (check 13 (ltb (linear-length ps) pairs-limit) ∷ []) (p .1) (leb-is (suc (linear-length ps)) pairs-limit (omega arith), tt)))
+
+-- 38 stands after 27
+pub in-writing : (ks : List EncryptedDataKey) → take 3 (map check-number (keys-checks ks)) ≡ (27 ∷ 27 ∷ 38 ∷ [])
+unfolding keys-checks
+in-writing ks = refl
 
 pub keys-then : (ks : List EncryptedDataKey) → Holds (keys-checks ks) → KeyListOk ks
 unfolding keys-checks

@@ -7,7 +7,7 @@ use Prim.Native.Nat.{ℕ, zero, suc, _+_, _-_, _≤_, _<_}
 use native.Mathlib.Omega.{arith}
 use native.Mathlib.Nat.{add-assoc}
 use lib.Dec.{leb, ltb, eqb}
-use lib.ListN.{length, drop}
+use lib.ListN.{length, take, drop}
 use lib.Seq.{drop-cons}
 use Rattle.format.specs.Read.{Reader, _>>=_, _>>_, return, test, End, no-end, end-at, Answer, accepted, refused, answer, at, addressable, operation}
 use Rattle.format.specs.Serialize.{Part, read, read-uint, read-uint8, read-uint16, read-uint32, read-short-length-seq}
@@ -18,6 +18,7 @@ use Rattle.format.specs.Context.{Mode, is-strict, seen, read-text, read-
 use Rattle.format.specs.Keys.{Max, read-encrypted-data-key, read-encrypted-data-keys-section, read-encrypted-data-keys-section-into}
 use Rattle.format.specs.Places.{number-here, number8, number16, number32, part-of, entry-here, entry-end, items-end, pair-here, pair-end, pairs-here, pairs-end, key-here, key-end, section-pairs, section-form, section-keys, section-keys-end}
 use Rattle.format.specs.First.{Line, lacks, when, unless, entry-list, each-list, pair-list, context-list-of, context-list, key-list, keys-list, context-into-list, keys-into-list}
+use Rattle.format.specs.Pinned.{line-number}
 use Rattle.format.proofs.Tests.{never, leb-is, nleb-is, is-leb, is-nleb, eqb-is, is-eqb, eqb-shift}
 use Rattle.format.proofs.Lines.{first-line, one-none, join-none, behind-line, behind-list, Goes, goes-as, return-goes, bind-goes, test-goes, not-goes, held-goes, read-goes, repeat-goes, enclosed-goes, stopped}
 
@@ -167,6 +168,11 @@ context-into-goes mode room = bind-goes (context-goes mode) (λ ps. test-goes _ 
 key-goes : Goes read-encrypted-data-key key-list key-here key-end
 unfolding read-encrypted-data-key key-list entry-list
 key-goes = bind-goes (text-goes no-end 16) (λ p. bind-goes (entry-goes no-end) (λ i. bind-goes (entry-goes no-end) (λ c. return-goes _)))
+
+-- 38 stands before 15
+pub in-reading : (max : Max) (m : List ℕ) (s : ℕ) → take 3 (map line-number (keys-list max m s)) ≡ (2 ∷ 38 ∷ 15 ∷ [])
+unfolding keys-list
+in-reading max m s = refl
 
 pub keys-goes : (max : Max) → Goes (read-encrypted-data-keys-section max) (keys-list max) section-keys section-keys-end
 unfolding read-encrypted-data-keys-section keys-list

@@ -3,25 +3,25 @@ use mathlib.Core.Path.{_≡_, refl, ap}
 use mathlib.Core.Bool.{Bool, true, false, not, _&&_}
 use mathlib.Core.Logic.{_⊎_, inl, inr, ⊎-elim}
 use mathlib.Core.Option.{none}
-use mathlib.Core.List.{List, [], _∷_, _++_, append-assoc, map}
+use mathlib.Core.List.{List, [], _∷_, _++_, append-assoc}
 use Prim.Native.Nat.{ℕ, zero, suc, _+_, _*_, _/_, _%_, _≤_, _<_}
 use native.Mathlib.Omega.{arith}
 use lib.Dec.{leb, eqb}
-use lib.ListN.{length, take, drop, length-drop}
+use lib.ListN.{length, drop, length-drop}
 use lib.Seq.{take-append-seam, drop-append-seam}
 use Rattle.format.specs.Shared.{by, one-or-two, frame-fits}
 use Rattle.format.specs.Read.{Answer, accepted, refused, at, addressable, operation}
 use Rattle.format.specs.Serialize.{read, read-at, write-uint16, write-uint32, images, every}
 use Rattle.format.specs.Fields.{Form, today, old, Pair, EncryptedDataKey, key-parts}
-use Rattle.format.specs.Checks.{first, count-checks, keys-checks, fits-form}
+use Rattle.format.specs.Checks.{first, count-checks, fits-form}
 use Rattle.format.specs.Context.{write-aad-pair, write-aad-pairs}
-use Rattle.format.specs.Keys.{Max, write-encrypted-data-key, write-encrypted-data-keys}
+use Rattle.format.specs.Keys.{write-encrypted-data-key, write-encrypted-data-keys}
 use Rattle.format.specs.Body.{Which, either, v1-only, v2-only, Opening, read-opening, tests-frames}
 use Rattle.format.specs.Lent.{bytes-at}
 use Rattle.format.specs.Places.{number8}
-use Rattle.format.specs.First.{NoneApplies, operation-list, opening-list, keys-list}
+use Rattle.format.specs.First.{NoneApplies, operation-list, opening-list}
 use Rattle.format.specs.Demand3.{old-empty, reached-old, reaches-old}
-use Rattle.format.specs.Pinned.{Decides, line-number, check-number, Pinned}
+use Rattle.format.specs.Pinned.{Decides, Pinned}
 use Rattle.format.proofs.Tests.{leb-is, is-leb, nleb-is, is-nleb, eqb-is, is-eqb, neqb-is}
 use Rattle.format.proofs.Serialize.{read-fits, read-short}
 use Rattle.format.proofs.Firsts.{both, and, or-cases, or-right, first-fails, fails-first}
@@ -32,6 +32,8 @@ use Rattle.format.proofs.Context.{length-pairs}
 use Rattle.format.proofs.Tables.{tables}
 use Rattle.format.proofs.Filled.{pair-table, key-table, frame-table}
 use Rattle.format.proofs.Lengths.{lengths}
+use Rattle.format.proofs.Accepts.{in-writing}
+use Rattle.format.proofs.First.{in-reading}
 use Rattle.format.proofs.FirstBody.{opening-goes, first-refusal, none-applied}
 use Rattle.format.proofs.NoKey.{none-within}
 use Rattle.format.proofs.Find.{same-equal, equal-same, seen-has, has-seen}
@@ -86,14 +88,6 @@ frames-tested v2-only = record { then-holds = λ e. let z : _≡_ {A = ℕ} 0 1 
 none-counted : first (count-checks 0 (images key-parts [])) ≡ none
 unfolding first images every
 none-counted = refl
-
-in-reading : (max : Max) (m : List ℕ) (s : ℕ) → take 3 (map line-number (keys-list max m s)) ≡ (2 ∷ 38 ∷ 15 ∷ [])
-unfolding keys-list
-in-reading max m s = refl
-
-in-writing : (ks : List EncryptedDataKey) → take 3 (map check-number (keys-checks ks)) ≡ (27 ∷ 27 ∷ 38 ∷ [])
-unfolding keys-checks
-in-writing ks = refl
 
 module _ (which : Which) (m : List ℕ) (s : ℕ) where
   abbrev Reached : Type 0

@@ -47,7 +47,7 @@ impl Section {
 pub(crate) fn walk(message: &[u8], start: u64, max: Option<u64>) -> Result<Section, Refusal> {
     let (count, first_key) = read_u16(message, start)?;
     if count == 0 {
-        return Err(Refusal::of(NO_DATA_KEY));
+        return Err(Refusal::of(NO_ENCRYPTED_DATA_KEY));
     }
     if max.is_some_and(|max| u64::from(count) > max) {
         return Err(Refusal::of(ABOVE_MAXIMUM));
@@ -91,7 +91,7 @@ pub fn read_encrypted_data_keys_section(
 pub(crate) fn test_keys(text: &[u8], keys: &[u32]) -> Result<u64, Refusal> {
     let total = test_table(text, keys, NUMBERS_A_KEY)?;
     if keys.is_empty() {
-        return Err(Refusal::of(NO_DATA_KEY));
+        return Err(Refusal::of(NO_ENCRYPTED_DATA_KEY));
     }
     for key in keys.chunks_exact(NUMBERS_A_KEY) {
         if !is_utf8(text_part(text, key)) {

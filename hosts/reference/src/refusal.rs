@@ -63,7 +63,7 @@ pub const SEQUENCE_NUMBER: u32 = 34;
 pub const FINAL_CONTENT: u32 = 35;
 pub const NO_FRAME: u32 = 36;
 pub const REGULAR_CONTENT: u32 = 37;
-pub const NO_DATA_KEY: u32 = 38;
+pub const NO_ENCRYPTED_DATA_KEY: u32 = 38;
 
 /// The greatest message length and start any reader takes. Below it every
 /// position is far from overflow, and every place fits a table entry.
