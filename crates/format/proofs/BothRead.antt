@@ -2,7 +2,7 @@
 use mathlib.Core.Path.{_≡_, refl, ap}
 use mathlib.Core.Bool.{Bool, true, false, not}
 use mathlib.Core.Logic.{_⊎_, inl, inr}
-use mathlib.Core.List.{List, [], _∷_}
+use mathlib.Core.List.{List, []}
 use Prim.Native.Nat.{ℕ, _+_}
 use lib.Dec.{eqb}
 use lib.ListN.{length}
@@ -12,12 +12,12 @@ use Rattle.format.specs.Fields.{PairAt, EncryptedDataKeyAt}
 use Rattle.format.specs.Context.{Mode, tolerant, read-aad-section, ContextAt, mark, with-mark, read-aad-section-into, find-value}
 use Rattle.format.specs.OnlyAuthenticated.{write-only-authenticated}
 use Rattle.format.specs.Keys.{Max, within, read-encrypted-data-key, read-encrypted-data-keys-section, read-encrypted-data-keys-section-into}
-use Rattle.format.specs.Body.{Opening, Request, after-keys, after-context, after-opening, read-body}
+use Rattle.format.specs.Body.{Opening, Request, after-context, after-opening, read-body}
 use Rattle.format.specs.Source.{source-read-aad-section, source-read-aad-section-into, source-find-value, source-write-only-authenticated, source-read-encrypted-data-keys-section, source-read-encrypted-data-keys-section-into, source-after-context, source-after-opening, source-read-body}
 use Rattle.format.proofs.Section.{Alike, of-alike}
 use Rattle.format.proofs.Members.{has, no-member}
 use Rattle.format.proofs.ListedLaws.{Listed}
-use Rattle.format.proofs.WantedLaws.{Near, Any, Header, uint16-wants}
+use Rattle.format.proofs.WantedLaws.{Near, Header, uint16-wants}
 use Rattle.format.proofs.Wanted.{opening-wants, section-wants, marked-wants}
 use Rattle.format.proofs.SourceListed.{keys-into-listed, after-context-listed}
 
@@ -77,8 +77,8 @@ pub record BothReadKeys {A : Type 0} (r r′ : Reader A) : Type 0 where
 pub without-keys : {A : Type 0} {r r′ : Reader A} → BothRead r r′ → BothReadKeys r r′
 without-keys h = record { alike = λ l s hb. inl (h .alike l s hb) }
 
--- the key section, with something behind it
-behind : Max → ℕ → Reader (List EncryptedDataKeyAt)
+-- the key section behind the test of 38, and with something behind it
+unfoldable pub behind : Max → ℕ → Reader (List EncryptedDataKeyAt)
 behind max count = test 15 (within count max) >> repeat count (λ acc. read-encrypted-data-key) []
 
 module _ {B : Type 0} (max : Max) (f : List EncryptedDataKeyAt → Reader B) {ks : List ℕ} (h : Listed ks (source-read-encrypted-data-keys-section max >>= f)) (no : has ks 13 ≡ false) where

@@ -1,10 +1,10 @@
 -- 38 is answered where a key count of 0 is reached, and nowhere else; and what the source's reading does there. Assumes nothing.
 use mathlib.Core.Path.{_≡_, refl, sym, ap, _∙_}
 use mathlib.Core.Bool.{Bool, true, false, not}
-use mathlib.Core.Logic.{_⊎_, inl, inr}
+use mathlib.Core.Logic.{inl, inr}
 use mathlib.Core.Option.{Option, none, some}
-use mathlib.Core.List.{List, [], _∷_, _++_, List·Memᴰ}
-use Prim.Native.Nat.{ℕ, suc, _+_, _*_, _-_, _≤_, _<_}
+use mathlib.Core.List.{List, [], _∷_, _++_}
+use Prim.Native.Nat.{ℕ, suc, _+_, _*_, _-_, _≤_}
 use native.Mathlib.Omega.{arith}
 use lib.Dec.{leb, eqb}
 use lib.ListN.{length, getD, take, drop}
@@ -14,7 +14,7 @@ use Rattle.format.specs.Serialize.{read-uint16, Bytes}
 use Rattle.format.specs.Shared.{by}
 use Rattle.format.specs.Fields.{EncryptedDataKeyAt, HeaderBody}
 use Rattle.format.specs.Context.{ContextAt}
-use Rattle.format.specs.Keys.{Max, no-max, at-most, within, read-encrypted-data-key, read-encrypted-data-keys-section, read-encrypted-data-keys-section-into}
+use Rattle.format.specs.Keys.{Max, no-max, at-most, within, read-encrypted-data-keys-section, read-encrypted-data-keys-section-into}
 use Rattle.format.specs.Body.{Opening, Request, after-keys, after-context, after-opening, read-body}
 use Rattle.format.specs.Lent.{bytes-at}
 use Rattle.format.specs.Lengths.{JustWhere}
@@ -22,7 +22,7 @@ use Rattle.format.specs.Places.{number8, number16, entry-end}
 use Rattle.format.specs.First.{Line, lacks, unless, NoneApplies, operation-list, opening-list, context-list}
 use Rattle.format.specs.Refusals.{opening-refusals, section-refusals}
 use Rattle.format.specs.Source.{source-read-encrypted-data-keys-section, source-read-encrypted-data-keys-section-into, source-after-context, source-after-opening, source-read-body}
-use Rattle.format.specs.SourceEquality.{NoKey, NoKeyAt, before-keys, NoKeyIn}
+use Rattle.format.specs.SourceEquality.{NoKeyAt, before-keys, NoKeyIn}
 use Rattle.format.proofs.Tests.{leb-is, is-leb, is-eqb}
 use Rattle.format.proofs.Serialize.{two-bytes}
 use Rattle.format.proofs.Firsts.{both}
@@ -31,12 +31,12 @@ use Rattle.format.proofs.Messages.{bytes-drop, cases, operation-here, a
 use Rattle.format.proofs.Lines.{first-line, join-none, one-none, none-applies, applies-none, Goes, stopped}
 use Rattle.format.proofs.ListedLaws.{Fine, Listed, then-listed, return-listed, test-listed, uint16-listed, repeat-listed, marked-listed, Gives, return-gives, bind-gives, passed-gives}
 use Rattle.format.proofs.Listed.{key-listed, opening-listed, opening-without, section-listed, section-without}
-use Rattle.format.proofs.First.{there, is-number16, uint16-goes, marked-goes}
+use Rattle.format.proofs.First.{there, uint16-goes, marked-goes}
 use Rattle.format.proofs.FirstBody.{opening-goes}
 use Rattle.format.proofs.Exact.{error-is-no-success}
 use Rattle.format.proofs.Section.{Alike}
 use Rattle.format.proofs.SourceListed.{after-keys-listed}
-use Rattle.format.proofs.BothRead.{BothRead, section-both, marked-both}
+use Rattle.format.proofs.BothRead.{BothRead, section-both, marked-both, behind}
 
 -- THE COUNT: two bytes 00 that are there
 abbrev Zero : List ℕ → ℕ → Type 0
@@ -99,10 +99,7 @@ module _ {A : Type 0} (ks : List ℕ) (no : has ks 38 ≡ false) where
             let k : x .number ≡ 38 = cc in
             absurd (not-38 h (drop s m) s (x .position) (g .stops m s x q ∙ ap (λ n. refused n (x .position)) k))
 
--- behind the test of 38
-behind : Max → ℕ → Reader (List EncryptedDataKeyAt)
-behind max count = test 15 (within count max) >> repeat count (λ acc. read-encrypted-data-key) []
-
+-- a key section
 behind-listed : (max : Max) (count : ℕ) → Listed (15 ∷ 16 ∷ []) (behind max count)
 unfolding behind
 behind-listed max count = then-listed (test-listed 15 _) (repeat-listed count (λ acc. key-listed) [])
@@ -113,12 +110,12 @@ unfolding test _>>_
 counted max m s l true z q = is-zero m s l z
 counted max m s l false z q = absurd (not-38 (15 ∷ 16 ∷ []) refl (behind-listed max (number16 m s)) (drop (s + 2) m) (s + 2) 0 q)
 
--- a key section, and what has no 38 behind it
-module _ {B : Type 0} (ks : List ℕ) (no : has ks 38 ≡ false) (f : List EncryptedDataKeyAt → Reader B) (h : (a : List EncryptedDataKeyAt) → Listed ks (f a)) (max : Max) (m : List ℕ) (s : ℕ) where
-  of-section : answer (read-encrypted-data-keys-section max (drop s m) s) ≡ refused 38 0 → Zero m s
-  unfolding read-encrypted-data-keys-section behind
-  of-section e = let (there, q) = passed [] refl uint16-goes uint16-listed _ m s e in counted max m s there (eqb (number16 m s) 0) refl q
+of-section : (max : Max) (m : List ℕ) (s : ℕ) → answer (read-encrypted-data-keys-section max (drop s m) s) ≡ refused 38 0 → Zero m s
+unfolding read-encrypted-data-keys-section behind
+of-section max m s e = let (there, q) = passed [] refl uint16-goes uint16-listed _ m s e in counted max m s there (eqb (number16 m s) 0) refl q
 
+-- and what has no 38 behind it
+module _ {B : Type 0} (ks : List ℕ) (no : has ks 38 ≡ false) (f : List EncryptedDataKeyAt → Reader B) (h : (a : List EncryptedDataKeyAt) → Listed ks (f a)) (max : Max) (m : List ℕ) (s : ℕ) where
   pub zero-there : answer ((read-encrypted-data-keys-section max >>= f) (drop s m) s) ≡ refused 38 0 → Zero m s
   unfolding _>>=_
   zero-there e = go (read-encrypted-data-keys-section max (drop s m) s) refl e
@@ -126,7 +123,7 @@ module _ {B : Type 0} (ks : List ℕ) (no : has ks 38 ≡ false) (f : List Encry
       go : (x : ReadResult (List EncryptedDataKeyAt)) → read-encrypted-data-keys-section max (drop s m) s ≡ x → answer (go-on x f) ≡ refused 38 0 → Zero m s
       go (success a l t) q e = absurd (not-38 ks no (h a) l t 0 e)
       go (more-needed p) q e = let z : _≡_ {A = ℕ} 2 38 = cc in absurd (omega arith)
-      go (error k) q e = let z : k ≡ 38 = cc in of-section (ap answer q ∙ ap (λ n. refused n 0) z)
+      go (error k) q e = let z : k ≡ 38 = cc in of-section max m s (ap answer q ∙ ap (λ n. refused n 0) z)
 
 -- AS OPERATIONS: 1 does not apply, nor a line of the list
 module _ (list : List ℕ → ℕ → List Line) (m : List ℕ) (s : ℕ) where

@@ -1,12 +1,12 @@
 -- Ours beside the source's reading, operation by operation. Assumes nothing.
 use mathlib.Core.Path.{_≡_, refl, sym, ap, _∙_}
 use mathlib.Core.Bool.{Bool, true, false}
-use mathlib.Core.Logic.{_⊎_, inl, inr}
+use mathlib.Core.Logic.{inl, inr}
 use mathlib.Core.List.{List, [], _∷_}
-use Prim.Native.Nat.{ℕ, _+_}
+use Prim.Native.Nat.{ℕ}
 use native.Mathlib.Omega.{arith}
 use lib.ListN.{drop}
-use Rattle.format.specs.Read.{ReadResult, success, more-needed, error, Reader, Answer, accepted, refused, answer, at, addressable, operation}
+use Rattle.format.specs.Read.{ReadResult, success, more-needed, error, Reader, Answer, refused, answer, at, addressable, operation}
 use Rattle.format.specs.Serialize.{Bytes}
 use Rattle.format.specs.Context.{tolerant}
 use Rattle.format.specs.Lent.{table-after}

@@ -1,19 +1,19 @@
 -- Fields without a key are accepted by neither side. Assumes nothing.
 use mathlib.Core.Path.{_≡_, refl, sym, ap, _∙_}
-use mathlib.Core.Bool.{Bool, true, false, not}
+use mathlib.Core.Bool.{true, not}
 use mathlib.Core.Option.{Option, none, some}
-use mathlib.Core.List.{List, [], _∷_, _++_, append-assoc}
+use mathlib.Core.List.{List, [], _++_, append-assoc}
 use Prim.Native.Nat.{ℕ, _+_, _≤_}
 use native.Mathlib.Omega.{arith}
 use lib.Dec.{eqb}
 use lib.ListN.{length, drop}
-use Rattle.format.specs.Read.{success, error, _>>=_, _>>_, test, accepted, refused, operation}
+use Rattle.format.specs.Read.{error, _>>=_, _>>_, test, accepted, refused, operation}
 use Rattle.format.specs.Serialize.{Bytes, write-uint16, images, every}
 use Rattle.format.specs.Fields.{Form, EncryptedDataKey, Fields, HeaderBody}
 use Rattle.format.specs.Context.{Mode, tolerant}
 use Rattle.format.specs.Keys.{Max, write-encrypted-data-key, write-encrypted-data-keys, write-encrypted-data-keys-section, read-encrypted-data-keys-section, read-encrypted-data-keys-section-into}
-use Rattle.format.specs.Body.{Which, either, tests-frames, Request, request, after-context, after-opening, read-body, read-header-body, image}
-use Rattle.format.specs.Checks.{Check, first, each, opening-checks, closing-checks, pairs-checks, keys-checks, form-checks, body-checks, Accepts}
+use Rattle.format.specs.Body.{Which, either, tests-frames, request, after-context, after-opening, read-body, read-header-body, image}
+use Rattle.format.specs.Checks.{first, each, opening-checks, closing-checks, pairs-checks, keys-checks, form-checks, body-checks, Accepts}
 use Rattle.format.specs.Demand3.{Writer, mark-by, image-by, without-keys, NoKeys}
 use Rattle.format.proofs.Tests.{never}
 use Rattle.format.proofs.Exact.{length-puts}
