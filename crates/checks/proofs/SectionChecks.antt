@@ -118,22 +118,17 @@ module _ (text table : List ℕ) (a : Checked) (is : a ≡ checked (first (numbe
     left-keys : checked (first (writing-encrypted-data-keys-section text table .checks)) ≡ checked (first (check 38 (some-key text table) ∷ each key-checks [] (keys-in text table)))
     left-keys = rw (key-stages text table) (stage-passes (key-table text table) a key-table-is _ e)
 
-    -- a table in sixes has a key unless it is empty
     how-many : length (keys-in text table) ≡ length table / 6
     how-many = items-length (key-in text table) 6 (length table / 6) 0
 
-    pub keys-38 : length table ≡ 0 → (r : Checked) → r ≡ Fails (because 38 0) → r ≡ checked (first (writing-encrypted-data-keys-section text table .checks))
+    pub keys-38 : length table < 6 → (r : Checked) → r ≡ Fails (because 38 0) → r ≡ checked (first (writing-encrypted-data-keys-section text table .checks))
     keys-38 h r f = check-ne 38 _ 0 _ r (how-many ∙ omega arith) f ∙ sym left-keys
 
-    pub keys-each : (length table ≡ 0 → ⊥) → (b : Checked) → b ≡ checked (first (each key-checks [] (keys-in text table))) → b ≡ checked (first (writing-encrypted-data-keys-section text table .checks))
+    pub keys-each : 6 ≤ length table → (b : Checked) → b ≡ checked (first (each key-checks [] (keys-in text table))) → b ≡ checked (first (writing-encrypted-data-keys-section text table .checks))
     keys-each h b bIs = pass-ne 38 _ 0 _ b some bIs ∙ sym left-keys
       where
         some : length (keys-in text table) ≡ 0 → ⊥
-        some z =
-            let p = passed 6 text table a is e in
-            let n = how-many in
-            let w : length table ≡ 0 = omega (arith, p .whole) in
-            h w
+        some z = let n = how-many in omega arith
 
 -- what checks that all pass leave known
 module _ (text table : List ℕ) where
