@@ -29,6 +29,7 @@ pub mod Helps
 pub mod SourceListed
 pub mod BothRead
 pub mod NoKey
+pub mod SourceWritten
 pub mod SourceEquality
 pub mod Held
 pub mod Either

@@ -19,6 +19,7 @@ use Rattle.format.proofs.Listed.{body-without-13, section-without, refu
 use Rattle.format.proofs.Helps.{section-wants}
 use Rattle.format.proofs.SourceListed.{Neither, into-neither, find-neither, only-authenticated-neither, keys-neither, body-neither}
 use Rattle.format.proofs.BothRead.{AlikeButKeys, BothReadKeys, without-keys, into-both, find-both, only-authenticated-both, keys-into-both, body-both}
+use Rattle.format.proofs.SourceWritten.{keys-written, body-written, no-keys-written}
 use Rattle.format.proofs.NoKey.{no-key-at, no-keys, no-key-in, no-keys-in}
 
 -- ours answers as the source's reading does; or 32, and the source's refuses; or 38, and the source's does not answer 13
@@ -119,5 +120,8 @@ source-equality =
           beside (NoKeyIn q m s) _ _ (no-key-in q m s) (never-listed 13 _ (body-without-13 q (section-refusals (q .mode)) key-section-refusals (section-without (q .mode) .1) refl) _ (refusals .of-body q) m s) (body-neither q .never-32 m s) (body-neither q .never-38 m s) (operations (body-both q) m s hb);
       no-keys = no-keys;
       no-keys-in = no-keys-in;
+      keys-written = keys-written;
+      body-written = body-written;
+      no-keys-written = no-keys-written;
       wants = section-wants;
     }

@@ -81,14 +81,18 @@ closing-checks version content iv suiteData frame =
     ∷ check 20 (frame-fits content frame)
     ∷ []
 
--- the refusals of a body write, with checks in front of the pairs' and of the keys', which are the places of 26
-unfoldable pub body-checks : List Check → List Check → Form → Fields → List Check
-body-checks pairs-first keys-first form f =
+-- the refusals of a body write, by those of its pairs and of its keys
+abbrev pub body-checks-of : List Check → List Check → Form → Fields → List Check
+body-checks-of of-pairs of-keys form f =
     opening-checks (f .version) (f .messageType) (f .suite) (length (f .messageId))
-    ++ ((pairs-first ++ pairs-checks (f .pairs))
+    ++ (of-pairs
     ++ (form-checks form (length (f .pairs))
-    ++ ((keys-first ++ keys-checks (f .keys))
+    ++ (of-keys
     ++ closing-checks (f .version) (f .contentType) (f .headerIvLength) (length (f .suiteData)) (f .frameLength))))
+
+-- with checks in front of the pairs' and of the keys', which are the places of 26
+unfoldable pub body-checks : List Check → List Check → Form → Fields → List Check
+body-checks pairs-first keys-first form f = body-checks-of (pairs-first ++ pairs-checks (f .pairs)) (keys-first ++ keys-checks (f .keys)) form f
 
 -- 19 and 30, by the lengths of an IV and a tag
 abbrev pub sealed-checks : ℕ → ℕ → List Check

@@ -1,19 +1,21 @@
 -- EncryptionContext.dfy and EncryptedDataKeys.dfy as their function bodies read: the source holds no part of a context section to the section's
--- end, and tests what the pairs take instead; and it reads a key count of 0. What documents 01 and 02 add to the source, the strict mode, the tables, the
--- numbers and the mark, is in both readings, so that they differ in nothing else. It is kept to be compared with (specs/SourceEquality); no contract
--- cites it. Assumes nothing.
+-- end, and tests what the pairs take instead; and it reads and writes a key count of 0. What documents 01 and 02 add to the source, the strict mode, the
+-- tables, the numbers, the mark and what writers test, is in both, so that they differ in nothing else. It is kept to be compared with
+-- (specs/SourceEquality); no contract cites it. Assumes nothing.
 use mathlib.Core.Bool.{Bool, true, false, not}
-use mathlib.Core.List.{List, [], map}
+use mathlib.Core.List.{List, [], map, _++_}
 use Prim.Native.Nat.{ℕ, _+_, _*_}
 use lib.Dec.{leb, ltb, eqb}
 use lib.ListN.{length}
 use Rattle.format.specs.Read.{Reader, _>>=_, _>>_, return, test, no-end, repeat, enclosed}
-use Rattle.format.specs.Serialize.{Part, read-uint16}
-use Rattle.format.specs.Fields.{PairAt, pair-of, EncryptedDataKeyAt, HeaderBody}
+use Rattle.format.specs.Serialize.{Part, read-uint16, images}
+use Rattle.format.specs.Fields.{PairAt, pair-of, EncryptedDataKey, EncryptedDataKeyAt, key-parts, HeaderBody}
 use Rattle.format.specs.Context.{seen, pair-length, linear-length, pairs-limit, Mode, tolerant, read-aad-pair, read-aad-by, ContextAt, with-mark, look-up}
-use Rattle.format.specs.Keys.{Max, within, read-encrypted-data-key}
+use Rattle.format.specs.Keys.{Max, within, read-encrypted-data-key, write-encrypted-data-keys-section}
 use Rattle.format.specs.OnlyAuthenticated.{only-authenticated, in-twos, fitting}
-use Rattle.format.specs.Body.{Opening, read-opening, Request, after-keys}
+use Rattle.format.specs.Body.{Opening, read-opening, Request, after-keys, image}
+use Rattle.format.specs.Checks.{Check, each, count-checks, key-checks, pairs-checks, body-checks-of}
+use Rattle.format.specs.Lent.{keys-in, table-checks, Writing, BodyToWrite, fields-to-write}
 
 -- a step of ReadAADPairs, with 13: the pairs so far take 65,534 bytes or more
 unfoldable pub source-read-next-aad-pair : List PairAt → Reader PairAt
@@ -74,3 +76,19 @@ source-after-opening q o = with-mark (source-read-aad-section (q .mode)) >>= sou
 
 unfoldable pub source-read-body : Request → Reader HeaderBody
 source-read-body q = read-opening (q .which) >>= source-after-opening q
+
+-- WriteEncryptedDataKeysSection, and a body with it
+unfoldable pub source-keys-checks : List EncryptedDataKey → List Check
+source-keys-checks ks = count-checks (length ks) (images key-parts ks) ++ each key-checks [] ks
+
+unfoldable pub source-writing-encrypted-data-keys-section : List ℕ → List ℕ → Writing
+source-writing-encrypted-data-keys-section text keys =
+    record { checks = table-checks 6 text keys ++ source-keys-checks (keys-in text keys); image = write-encrypted-data-keys-section (keys-in text keys) }
+
+unfoldable pub source-writing-header-body : BodyToWrite → Writing
+source-writing-header-body b =
+    let f = fields-to-write b in
+    record {
+      checks = body-checks-of (table-checks 4 (b .text) (b .pairTable) ++ pairs-checks (f .pairs)) (table-checks 6 (b .text) (b .keyTable) ++ source-keys-checks (f .keys)) (b .form) f;
+      image = image (b .form) f;
+    }

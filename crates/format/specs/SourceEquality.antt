@@ -2,6 +2,7 @@
 -- equality with the source excepts it': ours beside the source's reading, of every message, start, mode, table and maximum. It is proved in
 -- proofs/SourceEquality. Assumes nothing.
 use mathlib.Core.Path.{_≡_}
+use mathlib.Core.Option.{none}
 use mathlib.Core.List.{List, [], _∷_, _++_}
 use mathlib.Core.Logic.{_⊎_}
 use Prim.Native.Nat.{ℕ, _+_}
@@ -11,13 +12,14 @@ use Rattle.format.specs.Shared.{by}
 use Rattle.format.specs.Fields.{HeaderBody}
 use Rattle.format.specs.Context.{Mode, read-aad-section-into, find-value}
 use Rattle.format.specs.Keys.{Max, read-encrypted-data-keys-section-into}
-use Rattle.format.specs.Lent.{bytes-at, table-after}
+use Rattle.format.specs.Lent.{bytes-at, table-after, keys-in, table-checks, Writing, written, size-of, output-after, BodyToWrite, fields-to-write, writing-encrypted-data-keys-section, writing-header-body}
+use Rattle.format.specs.Checks.{first}
 use Rattle.format.specs.Lengths.{JustWhere}
 use Rattle.format.specs.OnlyAuthenticated.{write-only-authenticated}
 use Rattle.format.specs.Body.{Request, read-body}
 use Rattle.format.specs.Places.{number8, entry-end}
 use Rattle.format.specs.First.{Line, NoneApplies, operation-list, opening-list, context-list}
-use Rattle.format.specs.Source.{source-read-aad-section-into, source-find-value, source-write-only-authenticated, source-read-encrypted-data-keys-section-into, source-read-body}
+use Rattle.format.specs.Source.{source-read-aad-section-into, source-find-value, source-write-only-authenticated, source-read-encrypted-data-keys-section-into, source-read-body, source-writing-encrypted-data-keys-section, source-writing-header-body}
 
 -- a key count of 0 stands at `place`, where no refusal listed `before` applies
 pub record NoKey (before : List Line) (m : List ℕ) (place : ℕ) : Type 0 where
@@ -54,6 +56,12 @@ pub record Beside {A : Type 0} (no-key : Type 0) (ours source : Answer A) : Type
   pub never-13 : (p : ℕ) → ours ≡ refused 13 p → ⊥
   pub for-13 : (p : ℕ) → source ≡ refused 13 p → ours ≡ refused 32 0
 
+-- two calls of writers that answer alike and leave the same, whatever the output, and of which the same is told before
+pub record WrittenAlike (ours source : Writing) : Type 0 where
+  pub answer : (out : List ℕ) → written ours out ≡ written source out
+  pub output : (out : List ℕ) → output-after ours out ≡ output-after source out
+  pub size : size-of ours ≡ size-of source
+
 -- operations that read no keys never answer 38
 abbrev pub BesideContext : {A : Type 0} → Answer A → Answer A → Type 0
 BesideContext ours source = Beside ⊥ ours source
@@ -70,5 +78,11 @@ pub record SourceEquality : Type 0 where
   -- where ours answers 38, the source's reading of a key section accepts no keys, and a body that it accepts has none
   pub no-keys : (max : Max) (room : ℕ) (m : List ℕ) (s : ℕ) → NoKeyAt m s → operation (source-read-encrypted-data-keys-section-into max room) m s ≡ accepted [] (s + 2)
   pub no-keys-in : (q : Request) (m : List ℕ) (s : ℕ) → Bytes m → NoKeyIn q m s → (b : HeaderBody) (t : ℕ) → operation (source-read-body q) m s ≡ accepted b t → b .keys ≡ []
+  -- WRITING. Where there is a key the two are alike. Where there is none ours answers 38 unless 26 comes before it, and the source's writes; of a body
+  -- specs/Demand3 NoKeys says it.
+  pub keys-written : (text table : List ℕ) → (keys-in text table ≡ [] → ⊥) → WrittenAlike (writing-encrypted-data-keys-section text table) (source-writing-encrypted-data-keys-section text table)
+  pub body-written : (b : BodyToWrite) → (fields-to-write b .keys ≡ [] → ⊥) → WrittenAlike (writing-header-body b) (source-writing-header-body b)
+  pub no-keys-written : (text table : List ℕ) → keys-in text table ≡ [] → first (table-checks 6 text table) ≡ none
+      → (size-of (writing-encrypted-data-keys-section text table) ≡ refused 38 0) × (size-of (source-writing-encrypted-data-keys-section text table) ≡ accepted tt 2)
   -- and a player is asked only for bytes that can help: those of a section's length, or of the section as a whole
   pub wants : (mode : Mode) (room : ℕ) (m : List ℕ) (s p : ℕ) → operation (read-aad-section-into mode room) m s ≡ refused 2 p → (p ≡ s + 2) ⊎ (p ≡ entry-end m s)

@@ -8,8 +8,8 @@ use Rattle.format.specs.Fields.{HeaderBody as BodyRead}
 use Rattle.format.specs.Context.{Mode}
 use Rattle.format.specs.Keys.{Max}
 use Rattle.format.specs.Body.{Which, read-header-body}
-use Rattle.format.specs.Lent.{table-after, pair-numbers, key-numbers, pair-table-after, key-table-after}
-use Rattle.format.specs.SourceEquality.{NoKeyIn, Beside}
+use Rattle.format.specs.Lent.{table-after, pair-numbers, key-numbers, pair-table-after, key-table-after, Writing}
+use Rattle.format.specs.SourceEquality.{NoKeyIn, Beside, WrittenAlike}
 use Rattle.format.proofs.SourceEquality.{source-equality}
 use Rattle.wire.specs.Codes.{because}
 use Rattle.wire.specs.declared.Refusal.{Refusal}
@@ -19,11 +19,14 @@ use Rattle.context.specs.declared.ContextAnswer.the-variants as context
 use Rattle.context.specs.declared.FoundAnswer.the-variants as found
 use Rattle.keys.specs.Codes.{keys-of}
 use Rattle.keys.specs.declared.KeysAnswer.the-variants as keys
+use Rattle.checks.specs.Answers.{write-answer-of, Writes}
+use Rattle.checks.specs.declared.WriteAnswer.{WriteAnswer}
 use Rattle.checks.specs.declared.WriteAnswer.the-variants as write
 use Rattle.only_authenticated.specs.Codes.{written-as, whole}
 use Rattle.body_reader.specs.Codes.{body-of}
 use Rattle.body_reader.specs.declared.HeaderBodyAnswer.the-variants as body
 use Rattle.promises.specs.Reader.{Call, reading, Meets}
+use Rattle.promises.specs.Writer.{lent}
 use Rattle.promises.specs.Source.{BySource, Leaves, as-asked, source-reading, BodyLeaves, SourcePromises}
 use Rattle.promises.proofs.Listed.{back-context, back-found, back-keys, back-written}
 use Rattle.promises.proofs.Reader.{refused-is}
@@ -61,6 +64,10 @@ body-leaves which mode max m s c hb call =
           (call .pairTable ∙ ap (λ o. pair-table-after o (c .pairs)) e, call .keyTable ∙ ap (λ o. key-table-after o (c .keys)) e);
     }
 
+-- a call of a writer, by what answers alike and leaves the same
+written-alike : {w w′ : Writing} → WrittenAlike w w′ → (before after : List ℕ) (r : WriteAnswer) → Writes w before after r → Writes w′ before after r
+written-alike h before after r call = record { answer = call .answer ∙ ap write-answer-of (h .answer before); output = call .output ∙ h .output before }
+
 pub source-promises : SourcePromises
 source-promises =
     record {
@@ -73,4 +80,7 @@ source-promises =
       of-keys = λ max room m s hb before after r call.
           leaves keys-of keys.Refused back-keys (λ k p. refl) _ _ _ (source-equality .of-keys max room m s hb) r (call .answer) key-numbers before after call;
       of-body = body-leaves;
+      keys-written = λ text table before after r some call. written-alike (source-equality .keys-written text table some) before after r call;
+      body-written = λ w some call. written-alike (source-equality .body-written (lent w) some) (w .before) (w .after) (w .answer) call;
+      body-length = λ w s some told. told ∙ ap write-answer-of (source-equality .body-written (lent w) some .size);
     }

@@ -2,7 +2,7 @@
 -- what every call answers and leaves in its tables and outputs, by its contract, against the source's reading. Proved in proofs/Source. Assumes nothing.
 use Prim.Native.Nat.{ℕ, _+_}
 use mathlib.Core.Path.{_≡_}
-use mathlib.Core.List.{List}
+use mathlib.Core.List.{List, []}
 use mathlib.Core.Logic.{_⊎_}
 use lib.ListN.{length}
 use Rattle.format.specs.Read.{Answer, refused, operation}
@@ -11,11 +11,11 @@ use Rattle.format.specs.Fields.{HeaderBody as BodyRead}
 use Rattle.format.specs.Context.{Mode, read-aad-section-into, find-value}
 use Rattle.format.specs.Keys.{Max, read-encrypted-data-keys-section-into}
 use Rattle.format.specs.Body.{Which, tests-frames, Request, request}
-use Rattle.format.specs.Lent.{table-after, pair-numbers, key-numbers, pair-table-after, key-table-after}
+use Rattle.format.specs.Lent.{table-after, pair-numbers, key-numbers, pair-table-after, key-table-after, keys-in, writing-encrypted-data-keys-section, writing-header-body}
 use Rattle.format.specs.Lengths.{JustWhere}
 use Rattle.format.specs.OnlyAuthenticated.{write-only-authenticated}
 use Rattle.format.specs.Places.{entry-end}
-use Rattle.format.specs.Source.{source-read-aad-section-into, source-find-value, source-write-only-authenticated, source-read-encrypted-data-keys-section-into, source-read-body}
+use Rattle.format.specs.Source.{source-read-aad-section-into, source-find-value, source-write-only-authenticated, source-read-encrypted-data-keys-section-into, source-read-body, source-writing-encrypted-data-keys-section, source-writing-header-body}
 use Rattle.format.specs.SourceEquality.{NoKeyAt, NoKeyIn}
 use Rattle.wire.specs.Codes.{because}
 use Rattle.wire.specs.declared.Refusal.{Refusal}
@@ -28,12 +28,15 @@ use Rattle.context.specs.declared.FoundAnswer.the-variants as found
 use Rattle.keys.specs.Codes.{keys-of}
 use Rattle.keys.specs.declared.KeysAnswer.{KeysAnswer}
 use Rattle.keys.specs.declared.KeysAnswer.the-variants as keys
+use Rattle.checks.specs.Answers.{Writes}
 use Rattle.checks.specs.declared.WriteAnswer.{WriteAnswer}
 use Rattle.checks.specs.declared.WriteAnswer.the-variants as write
 use Rattle.only_authenticated.specs.Codes.{written-as, whole}
 use Rattle.body_reader.specs.Codes.{body-of}
 use Rattle.body_reader.specs.declared.HeaderBodyAnswer.the-variants as body
 use Rattle.promises.specs.Reader.{Call, reading, Meets}
+use Rattle.promises.specs.Writer.{Write, lent, fields, MeetsWriter}
+use Rattle.promises.specs.Size.{Tells}
 
 -- an answer that is neither 32 nor 38 is that of the source's reading; it is 38 where a key count of 0 stands there, and nowhere else; where it
 -- is 32, the source's reading refuses too; and it is never 13
@@ -78,3 +81,8 @@ pub record SourcePromises : Type 0 where
       → Leaves (NoKeyAt m s) keys-of keys.Refused key-numbers (operation (source-read-encrypted-data-keys-section-into max room) m s) before after r
   pub of-body : (which : Which) (mode : Mode) (max : Max) (m : List ℕ) (s : ℕ) (c : Call) → Bytes m → Meets (reading which mode max m s c) c
       → BodyLeaves (NoKeyIn (as-asked which mode max c) m s) (source-reading which mode max m s c) c
+  -- WRITING. Where there is a key, a call of a writer, and of the length before it, is as good as one of the source's
+  pub keys-written : (text table before after : List ℕ) (r : WriteAnswer) → (keys-in text table ≡ [] → ⊥)
+      → Writes (writing-encrypted-data-keys-section text table) before after r → Writes (source-writing-encrypted-data-keys-section text table) before after r
+  pub body-written : (w : Write) → (fields w .keys ≡ [] → ⊥) → MeetsWriter w → Writes (source-writing-header-body (lent w)) (w .before) (w .after) (w .answer)
+  pub body-length : (w : Write) (s : WriteAnswer) → (fields w .keys ≡ [] → ⊥) → Tells (writing-header-body (lent w)) s → Tells (source-writing-header-body (lent w)) s
