@@ -54,7 +54,7 @@ module _ (q : Request) (m : List ℕ) (s : ℕ) where
       behind-context = go _ (opening-tidy (q .which)) m s o first opened ∙ go _ (marked-tidy (q .mode)) m first x second (marked-go (q .mode) m first ps second paired)
 
       pub at-keys : (k p : ℕ) → at (read-encrypted-data-keys-section (q .max)) m second ≡ refused k p → at (read-body q) m s ≡ refused k p
-      unfolding after-context after-keys
+      unfolding after-context
       at-keys k p e = behind-context ∙ stop _ (keys-tidy (q .max)) m second k p e
 
       module _ (ks : List EncryptedDataKeyAt) (third : ℕ) (keyed : at (read-encrypted-data-keys-section (q .max)) m second ≡ accepted ks third) where

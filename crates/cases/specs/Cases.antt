@@ -12,7 +12,7 @@ use Rattle.format.specs.Utf8.{rows, first-byte, octets}
 use Rattle.format.specs.Shared.{suites, version-in, read-message-format-version, read-esdk-suite-id, read-content-type, frame-fits}
 use Rattle.format.specs.Fields.{Form, today, form-number, Fields, HeaderBody}
 use Rattle.format.specs.Context.{seen, write-aad-pair, write-aad-pairs, write-aad, write-expanded-aad-section, write-aad-section, Mode, tolerant, strict, read-text, read-aad-pair, read-next-aad-pair, read-aad-by, read-aad, read-aad-of, read-aad-section, with-mark, read-aad-section-into}
-use Rattle.format.specs.Keys.{no-max, write-encrypted-data-key, write-encrypted-data-keys, write-encrypted-data-keys-section, read-encrypted-data-key, read-encrypted-data-keys-section}
+use Rattle.format.specs.Keys.{no-max, write-encrypted-data-key, write-encrypted-data-keys, write-encrypted-data-keys-section, read-encrypted-data-key, read-encrypted-data-keys-of, read-encrypted-data-keys-section}
 use Rattle.format.specs.Body.{either, read-opening-of, read-opening, read-closing-of, read-closing, after-keys, after-context, after-opening, read-body, read-header-body, write-opening-of, write-closing-of, image}
 use Rattle.format.specs.Checks.{first, each, pairs-checks, keys-checks, body-checks}
 use Rattle.format.specs.Lent.{place, pair-numbers, key-numbers}
@@ -103,7 +103,7 @@ cases =
 
 -- to unfold this is to unfold all that a reader is made of
 unfoldable pub opened : Unit {0}
-unfolding _>>=_ _>>_ return test held repeat enclosed at operation read read-uint read-uint8 read-uint16 read-uint32 read-short-length-seq sum same-bytes rows first-byte octets suites version-in read-message-format-version read-esdk-suite-id read-content-type frame-fits seen read-text read-aad-pair read-next-aad-pair read-aad-by read-aad read-aad-of read-aad-section with-mark read-aad-section-into read-encrypted-data-key read-encrypted-data-keys-section read-opening-of read-opening read-closing-of read-closing after-keys after-context after-opening read-body read-header-body
+unfolding _>>=_ _>>_ return test held repeat enclosed at operation read read-uint read-uint8 read-uint16 read-uint32 read-short-length-seq sum same-bytes rows first-byte octets suites version-in read-message-format-version read-esdk-suite-id read-content-type frame-fits seen read-text read-aad-pair read-next-aad-pair read-aad-by read-aad read-aad-of read-aad-section with-mark read-aad-section-into read-encrypted-data-key read-encrypted-data-keys-of read-encrypted-data-keys-section read-opening-of read-opening read-closing-of read-closing after-keys after-context after-opening read-body read-header-body
 opened = tt
 
 -- and a writer

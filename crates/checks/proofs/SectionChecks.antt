@@ -15,7 +15,7 @@ use Rattle.format.specs.Fields.{pair-parts, key-parts}
 use Rattle.format.specs.Context.{pair-length, linear-length}
 use Rattle.format.specs.Checks.{Check, check, first, each, count-checks, pair-checks, key-checks, pairs-checks, keys-checks}
 use Rattle.format.specs.Lent.{parts-in, pair-in, key-in, pairs-in, keys-in, places, table-checks, writing-aad-section, writing-encrypted-data-keys-section}
-use Rattle.format.proofs.Firsts.{holds, first-pass, first-stop}
+use Rattle.format.proofs.Firsts.{holds, first-pass, first-stop, first-cong}
 use Rattle.format.proofs.Tables.{items-length}
 use Rattle.wire.specs.Codes.{because}
 use Rattle.wire.specs.declared.Refusal.{Refusal}
@@ -24,7 +24,7 @@ use Rattle.checks.specs.Table.{short, numbers-checks, entries-size, Pass
 use Rattle.checks.specs.declared.Checked.{Checked}
 use Rattle.checks.specs.declared.Checked.the-variants.{Passes, Fails}
 use Rattle.checks.proofs.Items.{sum-of-images}
-use Rattle.checks.proofs.Stages.{first-cong, stage-passes, stage-fails, front, back, check-ne, pass-ne}
+use Rattle.checks.proofs.Stages.{stage-passes, stage-fails, front, back, check-ne, pass-ne}
 use Rattle.checks.proofs.Parts.{passed, in-fours, in-sixes, parts-size, parts-short}
 
 -- 26 and 27 of the numbers are those of the items

@@ -15,14 +15,6 @@ use Rattle.checks.specs.Answers.{checked}
 use Rattle.checks.specs.declared.Checked.{Checked}
 use Rattle.checks.specs.declared.Checked.the-variants.{Passes, Fails}
 
--- checks that give the same where those before them pass
-pub first-cong : (a x y : List Check) → (first a ≡ none → first x ≡ first y) → first (a ++ x) ≡ first (a ++ y)
-first-cong a x y f = go (first a) refl
-  where
-    go : (o : Option ℕ) → first a ≡ o → first (a ++ x) ≡ first (a ++ y)
-    go none q = first-none a x q ∙ f q ∙ sym (first-none a y q)
-    go (some k) q = first-some a x k q ∙ sym (first-some a y k q)
-
 -- checks in two stages that all pass
 pub front : (a b : List Check) → first (a ++ b) ≡ none → first a ≡ none
 front a b e = unheld a (split a b (holds (a ++ b) e) .0)

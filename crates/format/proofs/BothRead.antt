@@ -2,21 +2,22 @@
 use mathlib.Core.Path.{_≡_, refl, ap}
 use mathlib.Core.Bool.{Bool, true, false, not}
 use mathlib.Core.Logic.{_⊎_, inl, inr}
-use mathlib.Core.List.{List, []}
+use mathlib.Core.List.{List, _∷_}
 use Prim.Native.Nat.{ℕ, _+_}
 use lib.Dec.{eqb}
 use lib.ListN.{length}
-use Rattle.format.specs.Read.{ReadResult, success, more-needed, error, Reader, go-on, _>>=_, _>>_, test, repeat}
+use Rattle.format.specs.Read.{ReadResult, success, more-needed, error, Reader, go-on, _>>=_, _>>_, test, refused, answer}
 use Rattle.format.specs.Serialize.{Bytes, read-uint16}
 use Rattle.format.specs.Fields.{PairAt, EncryptedDataKeyAt}
 use Rattle.format.specs.Context.{Mode, tolerant, read-aad-section, ContextAt, mark, with-mark, read-aad-section-into, find-value}
 use Rattle.format.specs.OnlyAuthenticated.{write-only-authenticated}
-use Rattle.format.specs.Keys.{Max, within, read-encrypted-data-key, read-encrypted-data-keys-section, read-encrypted-data-keys-section-into}
-use Rattle.format.specs.Body.{Opening, Request, after-context, after-opening, read-body}
+use Rattle.format.specs.Keys.{Max, read-encrypted-data-keys-of, read-encrypted-data-keys-section, read-encrypted-data-keys-section-into}
+use Rattle.format.specs.Body.{either, Opening, Request, after-context, after-opening, read-body}
 use Rattle.format.specs.Source.{source-read-aad-section, source-read-aad-section-into, source-find-value, source-write-only-authenticated, source-read-encrypted-data-keys-section, source-read-encrypted-data-keys-section-into, source-after-context, source-after-opening, source-read-body}
 use Rattle.format.proofs.Section.{Alike, of-alike}
-use Rattle.format.proofs.Members.{has, no-member}
-use Rattle.format.proofs.ListedLaws.{Listed}
+use Rattle.format.proofs.Members.{has}
+use Rattle.format.proofs.ListedLaws.{Listed, not-listed}
+use Rattle.format.proofs.Listed.{closing-without}
 use Rattle.format.proofs.WantedLaws.{Near, Header, uint16-wants}
 use Rattle.format.proofs.Wanted.{opening-wants, section-wants, marked-wants}
 use Rattle.format.proofs.SourceListed.{keys-into-listed, after-context-listed}
@@ -68,8 +69,11 @@ unfolding write-only-authenticated source-write-only-authenticated
 only-authenticated-both text required room = first-differs _ (section-both tolerant)
 
 -- WITH KEYS: alike but for 32; or ours refuses 38, and the source's reading does not refuse 13, which is a context section's
+abbrev pub Not13 : {A : Type 0} → ReadResult A → Type 0
+Not13 y = (p : ℕ) → answer y ≡ refused 13 p → ⊥
+
 abbrev pub AlikeButKeys : {A : Type 0} → ReadResult A → ReadResult A → Type 0
-AlikeButKeys x y = Alike x y ⊎ ((x ≡ error 38) × (y ≡ error 13 → ⊥))
+AlikeButKeys x y = Alike x y ⊎ ((x ≡ error 38) × Not13 y)
 
 pub record BothReadKeys {A : Type 0} (r r′ : Reader A) : Type 0 where
   pub alike : (l : List ℕ) (s : ℕ) → Bytes l → AlikeButKeys (r l s) (r′ l s)
@@ -77,27 +81,22 @@ pub record BothReadKeys {A : Type 0} (r r′ : Reader A) : Type 0 where
 pub without-keys : {A : Type 0} {r r′ : Reader A} → BothRead r r′ → BothReadKeys r r′
 without-keys h = record { alike = λ l s hb. inl (h .alike l s hb) }
 
--- the key section behind the test of 38, and with something behind it
-unfoldable pub behind : Max → ℕ → Reader (List EncryptedDataKeyAt)
-behind max count = test 15 (within count max) >> repeat count (λ acc. read-encrypted-data-key) []
-
-module _ {B : Type 0} (max : Max) (f : List EncryptedDataKeyAt → Reader B) {ks : List ℕ} (h : Listed ks (source-read-encrypted-data-keys-section max >>= f)) (no : has ks 13 ≡ false) where
-  not-13 : (l : List ℕ) (s : ℕ) → (source-read-encrypted-data-keys-section max >>= f) l s ≡ error 13 → ⊥
-  not-13 l s e = no-member ks 13 no (rw e at (h .fine l s))
-
-  by-count : (b : Bool) (r : Reader (List EncryptedDataKeyAt)) (l : List ℕ) (t : ℕ) → (go-on (r l t) f ≡ error 13 → ⊥) → AlikeButKeys (go-on ((test 38 (not b) >> r) l t) f) (go-on (r l t) f)
+-- the key section, with something behind it
+module _ {B : Type 0} (max : Max) (f : List EncryptedDataKeyAt → Reader B) {ks : List ℕ} (h : Listed ks (source-read-encrypted-data-keys-section max >>= f)) (no-13 : has (2 ∷ ks) 13 ≡ false) where
+  by-count : (b : Bool) (r : Reader (List EncryptedDataKeyAt)) (l : List ℕ) (t : ℕ) → Not13 (go-on (r l t) f) → AlikeButKeys (go-on ((test 38 (not b) >> r) l t) f) (go-on (r l t) f)
   unfolding test _>>_
   by-count true r l t n = inr (refl, n)
   by-count false r l t n = inl (inl refl)
 
-  counted : (x : ReadResult ℕ) → (go-on (go-on x (behind max)) f ≡ error 13 → ⊥) → AlikeButKeys (go-on (go-on x (λ count. test 38 (not (eqb count 0)) >> behind max count)) f) (go-on (go-on x (behind max)) f)
-  counted (success count l t) n = by-count (eqb count 0) (behind max count) l t n
+  counted : (x : ReadResult ℕ) → Not13 (go-on (go-on x (read-encrypted-data-keys-of max)) f)
+      → AlikeButKeys (go-on (go-on x (λ count. test 38 (not (eqb count 0)) >> read-encrypted-data-keys-of max count)) f) (go-on (go-on x (read-encrypted-data-keys-of max)) f)
+  counted (success count l t) n = by-count (eqb count 0) (read-encrypted-data-keys-of max count) l t n
   counted (more-needed p) n = inl (inl refl)
   counted (error k) n = inl (inl refl)
 
   keys-both : BothReadKeys (read-encrypted-data-keys-section max >>= f) (source-read-encrypted-data-keys-section max >>= f)
-  unfolding read-encrypted-data-keys-section source-read-encrypted-data-keys-section behind _>>=_
-  keys-both = record { alike = λ l s hb. counted (read-uint16 l s) (not-13 l s) }
+  unfolding read-encrypted-data-keys-section source-read-encrypted-data-keys-section _>>=_
+  keys-both = record { alike = λ l s hb. counted (read-uint16 l s) (not-listed h 13 no-13 l s) }
 
 pub keys-into-both : (max : Max) (room : ℕ) → BothReadKeys (read-encrypted-data-keys-section-into max room) (source-read-encrypted-data-keys-section-into max room)
 unfolding read-encrypted-data-keys-section-into source-read-encrypted-data-keys-section-into
@@ -119,7 +118,7 @@ module _ {A B : Type 0} {good : A → Type 0} {r r′ : Reader A} {f f′ : A �
 
 after-context-both : (q : Request) (o : Opening) (x : ContextAt) → BothReadKeys (after-context q o x) (source-after-context q o x)
 unfolding after-context source-after-context
-after-context-both q o x = keys-both (q .max) _ (after-context-listed q o x) refl
+after-context-both q o x = keys-both (q .max) _ (after-context-listed q o x) (closing-without either (q .frames) .1)
 
 pub body-both : (q : Request) → BothReadKeys (read-body q) (source-read-body q)
 unfolding read-body source-read-body after-opening source-after-opening

@@ -15,7 +15,7 @@ use Rattle.format.specs.Utf8.{valid-utf8-seq}
 use Rattle.format.specs.Shared.{by, read-message-format-version, read-esdk-suite-id, read-content-type, suite-version}
 use Rattle.format.specs.Fields.{today, old, PairAt, pair-of}
 use Rattle.format.specs.Context.{Mode, is-strict, seen, read-text, read-aad-pair, read-next-aad-pair, read-aad-by, read-aad, read-aad-of, read-aad-section, form-between, mark, with-mark, read-aad-section-into}
-use Rattle.format.specs.Keys.{Max, read-encrypted-data-key, read-encrypted-data-keys-section, read-encrypted-data-keys-section-into}
+use Rattle.format.specs.Keys.{Max, read-encrypted-data-key, read-encrypted-data-keys-of, read-encrypted-data-keys-section, read-encrypted-data-keys-section-into}
 use Rattle.format.specs.Places.{number-here, number8, number16, number32, part-of, entry-here, entry-end, items-end, pair-here, pair-end, pairs-here, pairs-end, key-here, key-end, section-pairs, section-form, section-keys, section-keys-end}
 use Rattle.format.specs.First.{Line, lacks, when, unless, entry-list, each-list, pair-list, context-list-of, context-list, key-list, keys-list, context-into-list, keys-into-list}
 use Rattle.format.specs.Pinned.{line-number}
@@ -175,7 +175,7 @@ unfolding keys-list
 in-reading max m s = refl
 
 pub keys-goes : (max : Max) → Goes (read-encrypted-data-keys-section max) (keys-list max) section-keys section-keys-end
-unfolding read-encrypted-data-keys-section keys-list
+unfolding read-encrypted-data-keys-section read-encrypted-data-keys-of keys-list
 keys-goes max = bind-goes uint16-goes (λ count. not-goes 38 (eqb count 0) (test-goes _ _ (repeat-goes (λ acc. key-goes) count [])))
 
 pub keys-into-goes : (max : Max) (room : ℕ) → Goes (read-encrypted-data-keys-section-into max room) (keys-into-list max room) section-keys section-keys-end

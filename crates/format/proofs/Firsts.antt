@@ -1,6 +1,6 @@
 -- The first refusal of a list of checks: there is none just where every check passes, and else it is the first that fails.
 -- Assumes nothing.
-use mathlib.Core.Path.{_≡_, refl, ap, _∙_}
+use mathlib.Core.Path.{_≡_, refl, sym, ap, _∙_}
 use mathlib.Core.Bool.{Bool, true, false, _&&_, _||_}
 use mathlib.Core.Logic.{_⊎_, inl, inr}
 use mathlib.Core.Option.{Option, none, some}
@@ -81,6 +81,21 @@ first-some (c ∷ a) b k e = go (c .passes) (first-some a b k) e
     go : (t : Bool) → (first a ≡ some k → first (a ++ b) ≡ some k) → branch t (first a) c ≡ some k → branch t (first (a ++ b)) c ≡ some k
     go true f e = f e
     go false f e = e
+
+-- checks that find the same find the same behind others, where those pass, and in front of others
+pub first-cong : (a x y : List Check) → (first a ≡ none → first x ≡ first y) → first (a ++ x) ≡ first (a ++ y)
+first-cong a x y f = go (first a) refl
+  where
+    go : (o : Option ℕ) → first a ≡ o → first (a ++ x) ≡ first (a ++ y)
+    go none q = first-none a x q ∙ f q ∙ sym (first-none a y q)
+    go (some k) q = first-some a x k q ∙ sym (first-some a y k q)
+
+pub first-front : (x y c : List Check) → first x ≡ first y → first (x ++ c) ≡ first (y ++ c)
+first-front x y c e = go (first x) refl
+  where
+    go : (o : Option ℕ) → first x ≡ o → first (x ++ c) ≡ first (y ++ c)
+    go none q = first-none x c q ∙ sym (first-none y c (sym e ∙ q))
+    go (some k) q = first-some x c k q ∙ sym (first-some y c k (sym e ∙ q))
 
 pub first-fails : (checks : List Check) (k : ℕ) → first checks ≡ some k → FirstFails checks k
 unfolding first every

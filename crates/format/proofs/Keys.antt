@@ -8,7 +8,7 @@ use lib.ListN.{length}
 use Rattle.format.specs.Read.{_>>=_, _>>_, return, test, repeat}
 use Rattle.format.specs.Serialize.{Part, write-short-length-seq, images}
 use Rattle.format.specs.Fields.{EncryptedDataKey, EncryptedDataKeyAt, key-of}
-use Rattle.format.specs.Keys.{Max, within, write-encrypted-data-key, write-encrypted-data-keys, write-encrypted-data-keys-section, read-encrypted-data-key, read-encrypted-data-keys-section}
+use Rattle.format.specs.Keys.{Max, within, write-encrypted-data-key, write-encrypted-data-keys, write-encrypted-data-keys-section, read-encrypted-data-key, read-encrypted-data-keys-of, read-encrypted-data-keys-section}
 use Rattle.format.proofs.Exact.{Exact, seq-exact, check-exact, give-exact, revalue, many-exact, Oks, puts}
 use Rattle.format.proofs.Serialize.{uint16-exact, length-uint16, entry-exact, entry-at, Short}
 use Rattle.format.proofs.Context.{TextOk, text-exact}
@@ -49,7 +49,7 @@ abbrev pub keys-at : ℕ → List EncryptedDataKey → List EncryptedDataKeyAt
 keys-at s ks = puts write-encrypted-data-key key-at (s + 2) ks
 
 pub keys-exact : (max : Max) → Exact (read-encrypted-data-keys-section max) (KeysOk max) write-encrypted-data-keys-section keys-at
-unfolding read-encrypted-data-keys-section write-encrypted-data-keys-section write-encrypted-data-keys
+unfolding read-encrypted-data-keys-section read-encrypted-data-keys-of write-encrypted-data-keys-section write-encrypted-data-keys
 keys-exact max =
     revalue (KeysOk max) write-encrypted-data-keys-section keys-at
     (seq-exact _ uint16-exact λ s count. check-exact 38 _ (check-exact 15 _ (many-exact KeyOk write-encrypted-data-key key-at key-of (λ s k. refl) (λ acc. read-encrypted-data-key) (λ acc. key-exact (map key-of acc)) count [])))

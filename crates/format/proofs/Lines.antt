@@ -41,6 +41,15 @@ join-none (x ∷ xs) ys e = go (x .applies) e (join-none xs ys)
     go true e ih = some-is-not-none e
     go false e ih = ih e
 
+pub none-join : (xs ys : List Line) → first-line xs ≡ none → first-line ys ≡ none → first-line (xs ++ ys) ≡ none
+unfolding first-line
+none-join [] ys e f = f
+none-join (x ∷ xs) ys e f = go (x .applies) e (λ k. none-join xs ys k f)
+  where
+    go : (b : Bool) → by-applies b x (first-line xs) ≡ none → (first-line xs ≡ none → first-line (xs ++ ys) ≡ none) → by-applies b x (first-line (xs ++ ys)) ≡ none
+    go true e ih = some-is-not-none e
+    go false e ih = ih e
+
 pub join-some : (xs ys : List Line) (w : Line) → first-line (xs ++ ys) ≡ some w → (first-line xs ≡ some w) ⊎ ((first-line xs ≡ none) × (first-line ys ≡ some w))
 unfolding first-line
 join-some [] ys w e = inr (refl, e)

@@ -11,7 +11,7 @@ use Rattle.format.specs.Serialize.{Part, read-short-length-seq, same-byt
 use Rattle.format.specs.Shared.{read-message-format-version, read-esdk-suite-id, read-content-type, frame-fits}
 use Rattle.format.specs.Fields.{PairAt, EncryptedDataKeyAt}
 use Rattle.format.specs.Context.{Mode, tolerant, strict, read-text, read-aad-pair, read-next-aad-pair, read-aad-by, read-aad, read-aad-of, read-aad-section, ContextAt, with-mark, read-aad-section-into, look-up, find-value}
-use Rattle.format.specs.Keys.{Max, read-encrypted-data-key, read-encrypted-data-keys-section, read-encrypted-data-keys-section-into}
+use Rattle.format.specs.Keys.{Max, read-encrypted-data-key, read-encrypted-data-keys-of, read-encrypted-data-keys-section, read-encrypted-data-keys-section-into}
 use Rattle.format.specs.Body.{Which, either, v1-only, v2-only, read-opening-of, read-opening, read-closing-of, read-closing, Opening, Request, after-keys, after-context, after-opening, read-body}
 use Rattle.format.specs.Auth.{read-header-auth-tag-of, read-header-auth-tag}
 use Rattle.format.specs.OnlyAuthenticated.{fitting, write-only-authenticated}
@@ -94,13 +94,17 @@ unfolding write-only-authenticated fitting
 only-authenticated-listed text required room = bind-listed (section-listed tolerant) (λ ps. then-listed (test-listed 31 _) (then-listed (test-listed 28 _) (return-listed _)))
 
 -- the key section
-pub key-listed : Listed (16 ∷ []) read-encrypted-data-key
+key-listed : Listed (16 ∷ []) read-encrypted-data-key
 unfolding read-encrypted-data-key
 key-listed = bind-listed (text-listed no-end 16) (λ p. bind-listed (entry-listed no-end) (λ i. bind-listed (entry-listed no-end) (λ c. return-listed _)))
 
+pub counted-listed : (max : Max) (count : ℕ) → Listed (15 ∷ 16 ∷ []) (read-encrypted-data-keys-of max count)
+unfolding read-encrypted-data-keys-of
+counted-listed max count = then-listed (test-listed 15 _) (repeat-listed count (λ acc. key-listed) [])
+
 keys-listed : (max : Max) → Listed key-section-refusals (read-encrypted-data-keys-section max)
 unfolding read-encrypted-data-keys-section key-section-refusals
-keys-listed max = bind-listed uint16-listed (λ count. then-listed (test-listed 38 _) (then-listed (test-listed 15 _) (repeat-listed count (λ acc. key-listed) [])))
+keys-listed max = bind-listed uint16-listed (λ count. then-listed (test-listed 38 _) (counted-listed max count))
 
 keys-into-listed : (max : Max) (room : ℕ) → Listed (key-section-refusals ++ (23 ∷ [])) (read-encrypted-data-keys-section-into max room)
 unfolding read-encrypted-data-keys-section-into
@@ -164,13 +168,13 @@ closing-of-listed true content =
     bind-listed uint32-listed (λ r. then-listed (test-listed 18 _) (bind-listed uint8-listed (λ i. then-listed (test-listed 19 _) (bind-listed uint32-listed (λ f. return-listed _)))))
 closing-of-listed false content = also 18 (also 19 (second-closing-listed content))
 
-pub closing-listed : (which : Which) (o : Opening) → Opened which o → Listed (17 ∷ reserved-refusals which) (read-closing (eqb (o .version) 1))
+closing-listed : (which : Which) (o : Opening) → Opened which o → Listed (17 ∷ reserved-refusals which) (read-closing (eqb (o .version) 1))
 unfolding read-closing reserved-refusals
 closing-listed either o h = bind-listed content-listed (closing-of-listed _)
 closing-listed v1-only o h = bind-listed content-listed (closing-of-listed _)
 closing-listed v2-only o h = rw h (bind-listed content-listed second-closing-listed)
 
-pub tables-listed : (p k : Bool) {A : Type 0} (a : A) → Listed (22 ∷ 23 ∷ []) (test 22 p >> (test 23 k >> return a))
+tables-listed : (p k : Bool) {A : Type 0} (a : A) → Listed (22 ∷ 23 ∷ []) (test 22 p >> (test 23 k >> return a))
 tables-listed p k a = then-listed (test-listed 22 p) (then-listed (test-listed 23 k) (return-listed a))
 
 frames-listed : (frames fits : Bool) {A : Type 0} {r : Reader A} → Listed (22 ∷ 23 ∷ []) r → Listed (frame-refusals frames ++ (22 ∷ 23 ∷ [])) (test 20 (not frames || fits) >> r)
@@ -178,9 +182,10 @@ unfolding frame-refusals
 frames-listed true fits h = then-listed (test-listed 20 _) h
 frames-listed false fits h = then-listed (sure-listed 20 refl) h
 
-after-keys-listed : (q : Request) (o : Opening) → Opened (q .which) o → (x : ContextAt) (ks : List EncryptedDataKeyAt) → Listed (closing-refusals (q .which) (q .frames)) (after-keys q o x ks)
+-- by a version that what was opened is of; whatever was asked for, it is of either
+pub after-keys-listed : (which : Which) (q : Request) (o : Opening) → Opened which o → (x : ContextAt) (ks : List EncryptedDataKeyAt) → Listed (closing-refusals which (q .frames)) (after-keys q o x ks)
 unfolding after-keys closing-refusals
-after-keys-listed q o h x ks = bind-listed (closing-listed (q .which) o h) (λ c. frames-listed (q .frames) (frame-fits (c .contentType) (c .frameLength)) (tables-listed _ _ _))
+after-keys-listed which q o h x ks = bind-listed (closing-listed which o h) (λ c. frames-listed (q .frames) (frame-fits (c .contentType) (c .frameLength)) (tables-listed _ _ _))
 
 -- a body, whatever its sections are read by
 abbrev pub body-numbers : Request → List ℕ → List ℕ → List ℕ
@@ -188,7 +193,7 @@ body-numbers q ks js = opening-refusals (q .which) ++ (ks ++ (js ++ closing-refu
 
 pub body-listed-by : (q : Request) {ks js : List ℕ} {section : Reader (List PairAt)} {keys : Reader (List EncryptedDataKeyAt)} → Listed ks section → Listed js keys
     → Listed (body-numbers q ks js) (read-opening (q .which) >>= λ o. with-mark section >>= λ x. keys >>= after-keys q o x)
-body-listed-by q h k = given-listed (opening-listed (q .which)) (opening-gives (q .which)) (λ o g. bind-listed (marked-listed h) (λ x. bind-listed k (after-keys-listed q o g x)))
+body-listed-by q h k = given-listed (opening-listed (q .which)) (opening-gives (q .which)) (λ o g. bind-listed (marked-listed h) (λ x. bind-listed k (after-keys-listed (q .which) q o g x)))
 
 body-listed : (q : Request) → Listed (body-numbers q (section-refusals (q .mode)) key-section-refusals) (read-body q)
 unfolding read-body after-opening after-context
@@ -232,6 +237,10 @@ module _ {A : Type 0} (ks : List ℕ) (r : Reader A) (no-two : List·Memᴰ 2 ks
       near : length m ≤ 4294967295 → s ≤ 4294967295 → operation r m s ≡ answer (r (drop s m) s) → Refusal (1 ∷ 2 ∷ ks) m k p
       near a b q = of (r (drop s m) s) (h .fine (drop s m) s) (sym q ∙ e)
 
+-- a number that is in no list is not answered
+pub never-listed : {A : Type 0} (k : ℕ) (ks : List ℕ) → has (1 ∷ 2 ∷ ks) k ≡ false → (r : Reader A) → RefusesBy (1 ∷ 2 ∷ ks) r → (m : List ℕ) (s p : ℕ) → operation r m s ≡ refused k p → ⊥
+never-listed k ks e r h m s p q = no-member (1 ∷ 2 ∷ ks) k e (h m s k p q .is-listed)
+
 -- What stands before a body's sections and behind them, by what was asked: 2 is listed by itself, 32 is a context section's, 38 a key section's, and
 -- 13 only a writer's.
 abbrev Without : ℕ → List ℕ → Type 0
@@ -246,7 +255,7 @@ opening-without either = (refl, refl, refl, refl)
 opening-without v1-only = (refl, refl, refl, refl)
 opening-without v2-only = (refl, refl, refl, refl)
 
-closing-without : (which : Which) (frames : Bool) → WithoutThese (closing-refusals which frames)
+pub closing-without : (which : Which) (frames : Bool) → WithoutThese (closing-refusals which frames)
 unfolding reserved-refusals frame-refusals closing-refusals
 closing-without either true = (refl, refl, refl, refl)
 closing-without either false = (refl, refl, refl, refl)

@@ -1,5 +1,5 @@
 -- Which refusals a reader can answer, as a judgement that composes: sequence, test, counted repetition, an enclosed section. Assumes nothing.
-use mathlib.Core.Path.{_≡_, refl}
+use mathlib.Core.Path.{_≡_, refl, sym}
 use mathlib.Core.Bool.{Bool, true, false}
 use mathlib.Core.Logic.{⊎-elim}
 use mathlib.Core.List.{List, [], _∷_, _++_, List·Memᴰ, List·Memᴰ·head, List·Memᴰ·tail, List·Memᴰ·append-cases, Memᴰ·append-left, Memᴰ·append-right}
@@ -7,12 +7,12 @@ use Prim.Native.Nat.{ℕ, zero, suc, _+_, _≤_, _<_}
 use native.Mathlib.Omega.{arith}
 use lib.Dec.{leb, eqb}
 use lib.ListN.{length, length-drop}
-use Rattle.format.specs.Read.{ReadResult, success, more-needed, error, Reader, go-on, _>>=_, _>>_, return, test, End, no-end, end-at, held, repeat, enclosed}
+use Rattle.format.specs.Read.{ReadResult, success, more-needed, error, Reader, go-on, _>>=_, _>>_, return, test, End, no-end, end-at, held, repeat, enclosed, refused, answer}
 use Rattle.format.specs.Serialize.{read, read-uint, read-uint8, read-uint16, read-uint32}
 use Rattle.format.specs.Fields.{PairAt}
 use Rattle.format.specs.Context.{mark, with-mark}
 use Rattle.format.proofs.Tests.{is-leb, is-nleb}
-use Rattle.format.proofs.Members.{has-all, members}
+use Rattle.format.proofs.Members.{has, has-all, members, no-member}
 use Rattle.format.proofs.Exact.{enclosed-fits, enclosed-short, more-is-no-success, error-is-no-success}
 use Rattle.format.proofs.Serialize.{read-fits, read-short}
 
@@ -38,6 +38,16 @@ module _ {A : Type 0} where
 
   pub also : (j : ℕ) {ks : List ℕ} {r : Reader A} → Listed ks r → Listed (j ∷ ks) r
   also j {ks} {r} h = record { fine = λ l s. more ks (j ∷ ks) (λ k z. List·Memᴰ·tail z) (s + length l) (r l s) (h .fine l s) }
+
+-- a number that is not of the list, and not 2, is not answered
+module _ {A : Type 0} {ks : List ℕ} {r : Reader A} (h : Listed ks r) (k : ℕ) (other : has (2 ∷ ks) k ≡ false) where
+  pub not-listed : (l : List ℕ) (s p : ℕ) → answer (r l s) ≡ refused k p → ⊥
+  not-listed l s p e = by (r l s) (h .fine l s) e
+    where
+      by : (x : ReadResult A) → Fine ks (s + length l) x → answer x ≡ refused k p → ⊥
+      by (success a l′ t) f e = let z : _≡_ {A = ℕ} 0 1 = cc in absurd (omega arith)
+      by (more-needed w) f e = let z : 2 ≡ k = cc in no-member (2 ∷ ks) k other (List·Memᴰ·head (sym z))
+      by (error j) f e = let z : j ≡ k = cc in no-member (2 ∷ ks) k other (List·Memᴰ·tail (rw z at f))
 
 module _ {A B : Type 0} where
   goes-on : (ks js : List ℕ) (f : A → Reader B) → ((a : A) → Listed js (f a)) → (n : ℕ) (x : ReadResult A) → Fine ks n x → Fine (ks ++ js) n (go-on x f)

@@ -3,7 +3,7 @@ use mathlib.Core.Path.{_≡_, refl, sym, ap, _∙_}
 use mathlib.Core.Bool.{Bool, true, false, not}
 use mathlib.Core.Logic.{inl, inr}
 use mathlib.Core.Option.{Option, none, some}
-use mathlib.Core.List.{List, [], _∷_, _++_}
+use mathlib.Core.List.{List, [], _∷_}
 use Prim.Native.Nat.{ℕ, suc, _+_, _*_, _-_, _≤_}
 use native.Mathlib.Omega.{arith}
 use lib.Dec.{leb, eqb}
@@ -14,29 +14,28 @@ use Rattle.format.specs.Serialize.{read-uint16, Bytes}
 use Rattle.format.specs.Shared.{by}
 use Rattle.format.specs.Fields.{EncryptedDataKeyAt, HeaderBody}
 use Rattle.format.specs.Context.{ContextAt}
-use Rattle.format.specs.Keys.{Max, no-max, at-most, within, read-encrypted-data-keys-section, read-encrypted-data-keys-section-into}
-use Rattle.format.specs.Body.{Opening, Request, after-keys, after-context, after-opening, read-body}
+use Rattle.format.specs.Keys.{Max, no-max, at-most, within, read-encrypted-data-keys-of, read-encrypted-data-keys-section, read-encrypted-data-keys-section-into}
+use Rattle.format.specs.Body.{either, Opening, Request, after-keys, after-context, after-opening, read-body}
 use Rattle.format.specs.Lent.{bytes-at}
 use Rattle.format.specs.Lengths.{JustWhere}
 use Rattle.format.specs.Places.{number8, number16, entry-end}
 use Rattle.format.specs.First.{Line, lacks, unless, NoneApplies, operation-list, opening-list, context-list}
-use Rattle.format.specs.Refusals.{opening-refusals, section-refusals}
+use Rattle.format.specs.Refusals.{opening-refusals, section-refusals, closing-refusals}
 use Rattle.format.specs.Source.{source-read-encrypted-data-keys-section, source-read-encrypted-data-keys-section-into, source-after-context, source-after-opening, source-read-body}
 use Rattle.format.specs.SourceEquality.{NoKeyAt, before-keys, NoKeyIn}
 use Rattle.format.proofs.Tests.{leb-is, is-leb, is-eqb}
 use Rattle.format.proofs.Serialize.{two-bytes}
 use Rattle.format.proofs.Firsts.{both}
-use Rattle.format.proofs.Members.{has, no-member}
+use Rattle.format.proofs.Members.{has}
 use Rattle.format.proofs.Messages.{bytes-drop, cases, operation-here, accepted-inside}
-use Rattle.format.proofs.Lines.{first-line, join-none, one-none, none-applies, applies-none, Goes, stopped}
-use Rattle.format.proofs.ListedLaws.{Fine, Listed, then-listed, return-listed, test-listed, uint16-listed, repeat-listed, marked-listed, Gives, return-gives, bind-gives, passed-gives}
-use Rattle.format.proofs.Listed.{key-listed, opening-listed, opening-without, section-listed, section-without}
+use Rattle.format.proofs.Lines.{first-line, join-none, none-join, one-none, none-applies, applies-none, Goes, stopped}
+use Rattle.format.proofs.ListedLaws.{Listed, not-listed, then-listed, return-listed, test-listed, uint16-listed, marked-listed, Gives, return-gives, bind-gives, passed-gives}
+use Rattle.format.proofs.Listed.{counted-listed, opening-listed, opening-without, section-listed, section-without, after-keys-listed, closing-without}
 use Rattle.format.proofs.First.{there, uint16-goes, marked-goes}
 use Rattle.format.proofs.FirstBody.{opening-goes}
 use Rattle.format.proofs.Exact.{error-is-no-success}
 use Rattle.format.proofs.Section.{Alike}
-use Rattle.format.proofs.SourceListed.{after-keys-listed}
-use Rattle.format.proofs.BothRead.{BothRead, section-both, marked-both, behind}
+use Rattle.format.proofs.BothRead.{BothRead, section-both, marked-both}
 
 -- THE COUNT: two bytes 00 that are there
 abbrev Zero : List ℕ → ℕ → Type 0
@@ -73,55 +72,42 @@ none-within no-max = refl
 none-within (at-most n) = leb-is 0 n (omega arith)
 
 pub zero-read : (max : Max) (m : List ℕ) (s : ℕ) → Zero m s → source-read-encrypted-data-keys-section max (drop s m) s ≡ success [] (drop (s + 2) m) (s + 2)
-unfolding source-read-encrypted-data-keys-section repeat return _>>=_ _>>_ test
+unfolding source-read-encrypted-data-keys-section read-encrypted-data-keys-of repeat return _>>=_ _>>_ test
 zero-read max m s z = rw (zero-is m s z, none-within max) refl
 
--- A READER WHOSE LIST HAS NO 38 does not answer it
-module _ {A : Type 0} (ks : List ℕ) (no : has ks 38 ≡ false) where
-  of-result : (n p : ℕ) (x : ReadResult A) → Fine ks n x → answer x ≡ refused 38 p → ⊥
-  of-result n p (success a l t) h e = let z : _≡_ {A = ℕ} 0 1 = cc in absurd (omega arith)
-  of-result n p (more-needed w) h e = let z : _≡_ {A = ℕ} 2 38 = cc in absurd (omega arith)
-  of-result n p (error k) h e = let z : k ≡ 38 = cc in no-member ks 38 no (rw z at h)
-
-  not-38 : {r : Reader A} → Listed ks r → (l : List ℕ) (s p : ℕ) → answer (r l s) ≡ refused 38 p → ⊥
-  not-38 {r} h l s p e = of-result (s + length l) p (r l s) (h .fine l s) e
-
-  -- so what does not begin with it comes after it
-  module _ {B : Type 0} {r : Reader A} {list : List ℕ → ℕ → List Line} {value : List ℕ → ℕ → A} {end : List ℕ → ℕ → ℕ} (g : Goes r list value end) (h : Listed ks r) (f : A → Reader B) (m : List ℕ) (s : ℕ) where
-    passed : answer ((r >>= f) (drop s m) s) ≡ refused 38 0 → (first-line (list m s) ≡ none) × (answer (f (value m s) (drop (end m s) m) (end m s)) ≡ refused 38 0)
-    unfolding _>>=_
-    passed e = go (first-line (list m s)) refl
-      where
-        go : (x : Option Line) → first-line (list m s) ≡ x → (first-line (list m s) ≡ none) × (answer (f (value m s) (drop (end m s) m) (end m s)) ≡ refused 38 0)
-        go none q = (q, sym (ap (λ y. answer (go-on y f)) (g .passes m s q)) ∙ e)
-        go (some x) q =
-            let z : _≡_ {A = Answer B} (refused (x .number) (x .position)) (refused 38 0) = sym (stopped f (x .number) (x .position) (r (drop s m) s) (g .stops m s x q)) ∙ e in
-            let k : x .number ≡ 38 = cc in
-            absurd (not-38 h (drop s m) s (x .position) (g .stops m s x q ∙ ap (λ n. refused n (x .position)) k))
+-- A READER WHOSE LIST HAS NO 38 does not answer it, so what answers it comes after it
+module _ {A B : Type 0} (ks : List ℕ) (no-38 : has ks 38 ≡ false) {r : Reader A} {list : List ℕ → ℕ → List Line} {value : List ℕ → ℕ → A} {end : List ℕ → ℕ → ℕ}
+    (g : Goes r list value end) (h : Listed ks r) (f : A → Reader B) (m : List ℕ) (s : ℕ) where
+  passed : answer ((r >>= f) (drop s m) s) ≡ refused 38 0 → (first-line (list m s) ≡ none) × (answer (f (value m s) (drop (end m s) m) (end m s)) ≡ refused 38 0)
+  unfolding _>>=_
+  passed e = go (first-line (list m s)) refl
+    where
+      go : (x : Option Line) → first-line (list m s) ≡ x → (first-line (list m s) ≡ none) × (answer (f (value m s) (drop (end m s) m) (end m s)) ≡ refused 38 0)
+      go none q = (q, sym (ap (λ y. answer (go-on y f)) (g .passes m s q)) ∙ e)
+      go (some x) q =
+          let z : _≡_ {A = Answer B} (refused (x .number) (x .position)) (refused 38 0) = sym (stopped f (x .number) (x .position) (r (drop s m) s) (g .stops m s x q)) ∙ e in
+          let k : x .number ≡ 38 = cc in
+          absurd (not-listed h 38 no-38 (drop s m) s (x .position) (g .stops m s x q ∙ ap (λ n. refused n (x .position)) k))
 
 -- a key section
-behind-listed : (max : Max) (count : ℕ) → Listed (15 ∷ 16 ∷ []) (behind max count)
-unfolding behind
-behind-listed max count = then-listed (test-listed 15 _) (repeat-listed count (λ acc. key-listed) [])
-
 counted : (max : Max) (m : List ℕ) (s : ℕ) → first-line (lacks 2 m s ∷ []) ≡ none → (b : Bool) → eqb (number16 m s) 0 ≡ b
-    → answer ((test 38 (not b) >> behind max (number16 m s)) (drop (s + 2) m) (s + 2)) ≡ refused 38 0 → Zero m s
+    → answer ((test 38 (not b) >> read-encrypted-data-keys-of max (number16 m s)) (drop (s + 2) m) (s + 2)) ≡ refused 38 0 → Zero m s
 unfolding test _>>_
 counted max m s l true z q = is-zero m s l z
-counted max m s l false z q = absurd (not-38 (15 ∷ 16 ∷ []) refl (behind-listed max (number16 m s)) (drop (s + 2) m) (s + 2) 0 q)
+counted max m s l false z q = absurd (not-listed (counted-listed max (number16 m s)) 38 refl (drop (s + 2) m) (s + 2) 0 q)
 
 of-section : (max : Max) (m : List ℕ) (s : ℕ) → answer (read-encrypted-data-keys-section max (drop s m) s) ≡ refused 38 0 → Zero m s
-unfolding read-encrypted-data-keys-section behind
+unfolding read-encrypted-data-keys-section
 of-section max m s e = let (there, q) = passed [] refl uint16-goes uint16-listed _ m s e in counted max m s there (eqb (number16 m s) 0) refl q
 
 -- and what has no 38 behind it
-module _ {B : Type 0} (ks : List ℕ) (no : has ks 38 ≡ false) (f : List EncryptedDataKeyAt → Reader B) (h : (a : List EncryptedDataKeyAt) → Listed ks (f a)) (max : Max) (m : List ℕ) (s : ℕ) where
+module _ {B : Type 0} (ks : List ℕ) (no-38 : has ks 38 ≡ false) (f : List EncryptedDataKeyAt → Reader B) (h : (a : List EncryptedDataKeyAt) → Listed ks (f a)) (max : Max) (m : List ℕ) (s : ℕ) where
   pub zero-there : answer ((read-encrypted-data-keys-section max >>= f) (drop s m) s) ≡ refused 38 0 → Zero m s
   unfolding _>>=_
   zero-there e = go (read-encrypted-data-keys-section max (drop s m) s) refl e
     where
       go : (x : ReadResult (List EncryptedDataKeyAt)) → read-encrypted-data-keys-section max (drop s m) s ≡ x → answer (go-on x f) ≡ refused 38 0 → Zero m s
-      go (success a l t) q e = absurd (not-38 ks no (h a) l t 0 e)
+      go (success a l t) q e = absurd (not-listed (h a) 38 no-38 l t 0 e)
       go (more-needed p) q e = let z : _≡_ {A = ℕ} 2 38 = cc in absurd (omega arith)
       go (error k) q e = let z : k ≡ 38 = cc in of-section max m s (ap answer q ∙ ap (λ n. refused n 0) z)
 
@@ -174,11 +160,6 @@ module _ (max : Max) (room : ℕ) (m : List ℕ) (s : ℕ) where
       ∙ rw (zero-read max m s (h .count), leb-is 0 room (omega arith)) refl
 
 -- a body
-none-join : (xs ys : List Line) → first-line xs ≡ none → first-line ys ≡ none → first-line (xs ++ ys) ≡ none
-unfolding first-line
-none-join [] ys e f = f
-none-join (x ∷ xs) ys e f = let z = one-none x xs e in rw (z .0) (none-join xs ys (z .1) f)
-
 module _ (q : Request) (m : List ℕ) (s : ℕ) where
   abbrev aad : ℕ
   aad = s + by (number8 m s) 20 35
@@ -191,7 +172,7 @@ module _ (q : Request) (m : List ℕ) (s : ℕ) where
       let (read, e₂) = passed (section-refusals (q .mode)) (section-without (q .mode) .2) (marked-goes (q .mode)) (marked-listed (section-listed (q .mode))) _ m aad e₁ in
       record {
         reached = reached (before-keys q) m s fits near (none-join (opening-list (q .which) m s) (context-list (q .mode) m aad) opened read);
-        count = zero-there (17 ∷ 18 ∷ 19 ∷ 20 ∷ 22 ∷ 23 ∷ []) refl _ (after-keys-listed q _ _) (q .max) m (entry-end m aad) e₂;
+        count = zero-there (closing-refusals either (q .frames)) (closing-without either (q .frames) .3) _ (after-keys-listed either q _ tt _) (q .max) m (entry-end m aad) e₂;
       }
 
   then-body : NoKeyIn q m s → operation (read-body q) m s ≡ refused 38 0

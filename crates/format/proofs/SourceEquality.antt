@@ -14,8 +14,8 @@ use Rattle.format.specs.Lengths.{JustWhere}
 use Rattle.format.specs.Refusals.{section-refusals, key-section-refusals, context-refusals, find-refusals, only-authenticated-refusals, keys-refusals, body-refusals, RefusesBy}
 use Rattle.format.specs.SourceEquality.{NoKeyAt, NoKeyIn, Beside, BesideContext, SourceEquality}
 use Rattle.format.proofs.Messages.{bytes-drop, refused-is-no-accepted}
-use Rattle.format.proofs.Members.{has, has-neither, no-member}
-use Rattle.format.proofs.Listed.{body-without-13, section-without, refusals}
+use Rattle.format.proofs.Members.{has, has-neither}
+use Rattle.format.proofs.Listed.{never-listed, body-without-13, section-without, refusals}
 use Rattle.format.proofs.Helps.{section-wants}
 use Rattle.format.proofs.SourceListed.{Neither, into-neither, find-neither, only-authenticated-neither, keys-neither, body-neither}
 use Rattle.format.proofs.BothRead.{AlikeButKeys, BothReadKeys, without-keys, into-both, find-both, only-authenticated-both, keys-into-both, body-both}
@@ -29,17 +29,12 @@ data AnswerAlike {A : Type 0} (o o′ : Answer A) : Type 0 where
   by-38 : o ≡ refused 38 0 → ((p : ℕ) → o′ ≡ refused 13 p → ⊥) → AnswerAlike o o′
 
 module _ {A : Type 0} where
-  not-13 : (y : ReadResult A) → (y ≡ error 13 → ⊥) → (p : ℕ) → answer y ≡ refused 13 p → ⊥
-  not-13 (success a l t) n p e = let z : _≡_ {A = ℕ} 0 1 = cc in absurd (omega arith)
-  not-13 (more-needed w) n p e = let z : _≡_ {A = ℕ} 2 13 = cc in absurd (omega arith)
-  not-13 (error k) n p e = let z : k ≡ 13 = cc in n (ap error z)
-
   answers : (x y : ReadResult A) → AlikeButKeys x y → AnswerAlike (answer x) (answer y)
   answers x y (inl (inl q)) = the-same (ap answer q)
   answers x (success a l t) (inl (inr (q, p))) = absurd p
   answers x (more-needed w) (inl (inr (q, p))) = by-32 (rw q refl) 2 w refl
   answers x (error k) (inl (inr (q, p))) = by-32 (rw q refl) k 0 refl
-  answers x y (inr (q, n)) = by-38 (rw q refl) (not-13 y n)
+  answers x y (inr (q, n)) = by-38 (rw q refl) n
 
   operations : {r r′ : Reader A} → BothReadKeys r r′ → (m : List ℕ) (s : ℕ) → Bytes m → AnswerAlike (operation r m s) (operation r′ m s)
   unfolding operation at
@@ -94,10 +89,6 @@ module _ {A : Type 0} where
           never-13 = never;
           for-13 = λ p e. absurd (n p e);
         }
-
-  -- a number that is in none of the lists
-  never-listed : (k : ℕ) (ks : List ℕ) → has (1 ∷ 2 ∷ ks) k ≡ false → (r : Reader A) → RefusesBy (1 ∷ 2 ∷ ks) r → (m : List ℕ) (s p : ℕ) → operation r m s ≡ refused k p → ⊥
-  never-listed k ks e r h m s p q = no-member (1 ∷ 2 ∷ ks) k e (h m s k p q .is-listed)
 
   beside-context : {r r′ : Reader A} (ks : List ℕ) → has ks 13 ≡ false → has ks 38 ≡ false → RefusesBy (1 ∷ 2 ∷ ks) r → Neither r′ → BothReadKeys r r′ → (m : List ℕ) (s : ℕ) → Bytes m
       → BesideContext (operation r m s) (operation r′ m s)

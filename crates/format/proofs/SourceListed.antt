@@ -5,16 +5,16 @@ use mathlib.Core.List.{List, [], _∷_, _++_}
 use Prim.Native.Nat.{ℕ}
 use lib.Dec.{eqb}
 use Rattle.format.specs.Read.{Reader, no-end, refused, operation}
-use Rattle.format.specs.Fields.{PairAt, EncryptedDataKeyAt}
+use Rattle.format.specs.Fields.{PairAt}
 use Rattle.format.specs.Context.{Mode, tolerant, read-aad-by, ContextAt}
 use Rattle.format.specs.Keys.{Max}
 use Rattle.format.specs.OnlyAuthenticated.{fitting}
-use Rattle.format.specs.Body.{either, Opening, Request, after-keys}
-use Rattle.format.specs.Refusals.{reserved-refusals}
+use Rattle.format.specs.Body.{either, Opening, Request}
+use Rattle.format.specs.Refusals.{closing-refusals}
 use Rattle.format.specs.Source.{source-read-next-aad-pair, source-read-aad-of, source-read-aad-section, source-read-aad-section-into, source-find-value, source-write-only-authenticated, source-read-encrypted-data-keys-section, source-read-encrypted-data-keys-section-into, source-after-context, source-after-opening, source-read-body}
 use Rattle.format.proofs.Members.{has, no-member}
 use Rattle.format.proofs.ListedLaws.{Listed, listed-as, bind-listed, then-listed, return-listed, test-listed, uint16-listed, repeat-listed, enclosed-listed}
-use Rattle.format.proofs.Listed.{look-listed, pair-listed, key-listed, closing-listed, tables-listed, body-numbers, body-listed-by, refuses, body-without-2, body-without-32, body-without-38}
+use Rattle.format.proofs.Listed.{look-listed, pair-listed, counted-listed, after-keys-listed, body-numbers, body-listed-by, refuses, never-listed, body-without-2, body-without-32, body-without-38}
 
 next-listed : (acc : List PairAt) → Listed (10 ∷ 11 ∷ 12 ∷ 13 ∷ []) (source-read-next-aad-pair acc)
 unfolding source-read-next-aad-pair
@@ -54,29 +54,19 @@ keys = 15 ∷ 16 ∷ []
 
 keys-listed : (max : Max) → Listed keys (source-read-encrypted-data-keys-section max)
 unfolding source-read-encrypted-data-keys-section
-keys-listed max = bind-listed uint16-listed (λ count. then-listed (test-listed 15 _) (repeat-listed count (λ acc. key-listed) []))
+keys-listed max = bind-listed uint16-listed (counted-listed max)
 
 pub keys-into-listed : (max : Max) (room : ℕ) → Listed (keys ++ (23 ∷ [])) (source-read-encrypted-data-keys-section-into max room)
 unfolding source-read-encrypted-data-keys-section-into
 keys-into-listed max room = bind-listed (keys-listed max) (λ ks. then-listed (test-listed 23 _) (return-listed _))
 
--- behind the keys, whatever version was asked for
-pub after-keys-listed : (q : Request) (o : Opening) (x : ContextAt) (ks : List EncryptedDataKeyAt) → Listed (17 ∷ 18 ∷ 19 ∷ 20 ∷ 22 ∷ 23 ∷ []) (after-keys q o x ks)
-unfolding after-keys reserved-refusals
-after-keys-listed q o x ks = bind-listed (closing-listed either o tt) (λ c. then-listed (test-listed 20 _) (tables-listed _ _ _))
-
-pub after-context-listed : (q : Request) (o : Opening) (x : ContextAt) → Listed (15 ∷ 16 ∷ 17 ∷ 18 ∷ 19 ∷ 20 ∷ 22 ∷ 23 ∷ []) (source-after-context q o x)
+pub after-context-listed : (q : Request) (o : Opening) (x : ContextAt) → Listed (keys ++ closing-refusals either (q .frames)) (source-after-context q o x)
 unfolding source-after-context
-after-context-listed q o x = bind-listed (keys-listed (q .max)) (after-keys-listed q o x)
+after-context-listed q o x = bind-listed (keys-listed (q .max)) (after-keys-listed either q o tt x)
 
 body-listed : (q : Request) → Listed (body-numbers q section keys) (source-read-body q)
 unfolding source-read-body source-after-opening source-after-context
 body-listed q = body-listed-by q (section-listed (q .mode)) (keys-listed (q .max))
-
--- a number that is in no such list is not answered
-module _ {A : Type 0} (ks : List ℕ) (r : Reader A) (no-two : has ks 2 ≡ false) (h : Listed ks r) (k : ℕ) (no-k : has (1 ∷ 2 ∷ ks) k ≡ false) where
-  never : (m : List ℕ) (s p : ℕ) → operation r m s ≡ refused k p → ⊥
-  never m s p e = no-member (1 ∷ 2 ∷ ks) k no-k (refuses ks r (no-member ks 2 no-two) h m s k p e .is-listed)
 
 -- neither 32 nor 38
 pub record Neither {A : Type 0} (r : Reader A) : Type 0 where
@@ -84,7 +74,9 @@ pub record Neither {A : Type 0} (r : Reader A) : Type 0 where
   pub never-38 : (m : List ℕ) (s p : ℕ) → operation r m s ≡ refused 38 p → ⊥
 
 neither : {A : Type 0} (ks : List ℕ) (r : Reader A) → has ks 2 ≡ false → has ks 32 ≡ false → has ks 38 ≡ false → Listed ks r → Neither r
-neither ks r no-two no-32 no-38 h = record { never-32 = never ks r no-two h 32 no-32; never-38 = never ks r no-two h 38 no-38 }
+neither ks r no-two no-32 no-38 h =
+    let by = refuses ks r (no-member ks 2 no-two) h in
+    record { never-32 = never-listed 32 ks no-32 r by; never-38 = never-listed 38 ks no-38 r by }
 
 pub into-neither : (mode : Mode) (room : ℕ) → Neither (source-read-aad-section-into mode room)
 into-neither mode room = neither _ _ refl refl refl (into-listed mode room)

@@ -1,7 +1,7 @@
 -- Ours beside what the source's writers would do with the same checks but for 38. Assumes nothing.
-use mathlib.Core.Path.{_≡_, refl, sym, ap, _∙_}
+use mathlib.Core.Path.{_≡_, refl, ap, _∙_}
 use mathlib.Core.Bool.{true, not}
-use mathlib.Core.Option.{Option, none, some}
+use mathlib.Core.Option.{none, some}
 use mathlib.Core.List.{List, [], _∷_, _++_}
 use Prim.Native.Nat.{ℕ}
 use native.Mathlib.Omega.{arith}
@@ -11,50 +11,35 @@ use Rattle.format.specs.Read.{accepted, refused}
 use Rattle.format.specs.Serialize.{write-uint16, images, every}
 use Rattle.format.specs.Fields.{EncryptedDataKey, key-parts}
 use Rattle.format.specs.Keys.{write-encrypted-data-keys, write-encrypted-data-keys-section}
-use Rattle.format.specs.Checks.{Check, first, each, count-checks, key-checks, keys-checks, form-checks, opening-checks, pairs-checks, body-checks}
+use Rattle.format.specs.Checks.{first, each, count-checks, key-checks, keys-checks, form-checks, opening-checks, pairs-checks, body-checks}
 use Rattle.format.specs.Lent.{keys-in, table-checks, Writing, refusal-of, size-of, BodyToWrite, fields-to-write, writing-encrypted-data-keys-section, writing-header-body}
 use Rattle.format.specs.Source.{source-keys-checks, source-writing-encrypted-data-keys-section, source-writing-header-body}
 use Rattle.format.specs.SourceEquality.{WrittenAlike}
 use Rattle.format.proofs.Tests.{neqb-is}
-use Rattle.format.proofs.Firsts.{first-none, first-some, first-pass}
-
--- checks that find the same find the same in front of others, and behind others
-in-front : (x y c : List Check) → first x ≡ first y → first (x ++ c) ≡ first (y ++ c)
-in-front x y c e = go (first x) refl
-  where
-    go : (o : Option ℕ) → first x ≡ o → first (x ++ c) ≡ first (y ++ c)
-    go none q = first-none x c q ∙ sym (first-none y c (sym e ∙ q))
-    go (some k) q = first-some x c k q ∙ sym (first-some y c k (sym e ∙ q))
-
-behind : (a x y : List Check) → first x ≡ first y → first (a ++ x) ≡ first (a ++ y)
-behind a x y e = go (first a) refl
-  where
-    go : (o : Option ℕ) → first a ≡ o → first (a ++ x) ≡ first (a ++ y)
-    go none q = first-none a x q ∙ e ∙ sym (first-none a y q)
-    go (some k) q = first-some a x k q ∙ sym (first-some a y k q)
+use Rattle.format.proofs.Firsts.{first-none, first-pass, first-cong, first-front}
 
 -- writers with one image whose checks find the same
 alike : (w w′ : Writing) → first (w .checks) ≡ first (w′ .checks) → w .image ≡ w′ .image → WrittenAlike w w′
 unfolding refusal-of
 alike w w′ e i =
     record {
-      answer = λ out. rw (i, in-front (w .checks) (w′ .checks) _ e) refl;
-      output = λ out. rw (i, in-front (w .checks) (w′ .checks) _ e) refl;
+      answer = λ out. rw (i, first-front (w .checks) (w′ .checks) _ e) refl;
+      output = λ out. rw (i, first-front (w .checks) (w′ .checks) _ e) refl;
       size = rw (e, i) refl;
     }
 
 -- with a key, 38 passes
-there-is-one : (ks : List EncryptedDataKey) → (ks ≡ [] → ⊥) → not (eqb (length ks) 0) ≡ true
-there-is-one [] h = absurd (h refl)
-there-is-one (k ∷ ks) h = ap not (neqb-is (length (k ∷ ks)) 0 (λ z. omega arith))
+some-pass : (ks : List EncryptedDataKey) → (ks ≡ [] → ⊥) → not (eqb (length ks) 0) ≡ true
+some-pass [] h = absurd (h refl)
+some-pass (k ∷ ks) h = ap not (neqb-is (length (k ∷ ks)) 0 (λ z. omega arith))
 
 same-keys : (ks : List EncryptedDataKey) → (ks ≡ [] → ⊥) → first (keys-checks ks) ≡ first (source-keys-checks ks)
 unfolding keys-checks source-keys-checks
-same-keys ks h = behind (count-checks (length ks) (images key-parts ks)) _ _ (first-pass 38 _ (each key-checks [] ks) (there-is-one ks h))
+same-keys ks h = first-cong (count-checks (length ks) (images key-parts ks)) _ _ (λ q. first-pass 38 _ (each key-checks [] ks) (some-pass ks h))
 
 pub keys-written : (text table : List ℕ) → (keys-in text table ≡ [] → ⊥) → WrittenAlike (writing-encrypted-data-keys-section text table) (source-writing-encrypted-data-keys-section text table)
 unfolding writing-encrypted-data-keys-section source-writing-encrypted-data-keys-section
-keys-written text table h = alike _ _ (behind (table-checks 6 text table) _ _ (same-keys (keys-in text table) h)) refl
+keys-written text table h = alike _ _ (first-cong (table-checks 6 text table) _ _ (λ q. same-keys (keys-in text table) h)) refl
 
 pub body-written : (b : BodyToWrite) → (fields-to-write b .keys ≡ [] → ⊥) → WrittenAlike (writing-header-body b) (source-writing-header-body b)
 unfolding writing-header-body source-writing-header-body body-checks
@@ -62,10 +47,10 @@ body-written b h =
     let f = fields-to-write b in
     let k₂₆ = table-checks 6 (b .text) (b .keyTable) in
     alike _ _
-    (behind (opening-checks (f .version) (f .messageType) (f .suite) (length (f .messageId))) _ _
-    (behind (table-checks 4 (b .text) (b .pairTable) ++ pairs-checks (f .pairs)) _ _
-    (behind (form-checks (b .form) (length (f .pairs))) _ _
-    (in-front (k₂₆ ++ keys-checks (f .keys)) (k₂₆ ++ source-keys-checks (f .keys)) _ (behind k₂₆ _ _ (same-keys (f .keys) h))))))
+    (first-cong (opening-checks (f .version) (f .messageType) (f .suite) (length (f .messageId))) _ _ λ q.
+    first-cong (table-checks 4 (b .text) (b .pairTable) ++ pairs-checks (f .pairs)) _ _ λ q.
+    first-cong (form-checks (b .form) (length (f .pairs))) _ _ λ q.
+    first-front (k₂₆ ++ keys-checks (f .keys)) (k₂₆ ++ source-keys-checks (f .keys)) _ (first-cong k₂₆ _ _ λ q. same-keys (f .keys) h))
     refl
 
 -- without one

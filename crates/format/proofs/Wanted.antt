@@ -12,7 +12,7 @@ use Rattle.format.specs.Shared.{id-length, iv-length, tag-length, commit
 use Rattle.format.specs.Fields.{PairAt}
 use Rattle.format.specs.Context.{Mode, tolerant, read-text, read-aad-pair, read-next-aad-pair, read-aad-by, read-aad, read-aad-of, read-aad-section, ContextAt, mark, with-mark, read-aad-section-into, look-up, find-value}
 use Rattle.format.specs.OnlyAuthenticated.{fitting, write-only-authenticated}
-use Rattle.format.specs.Keys.{Max, read-encrypted-data-key, read-encrypted-data-keys-section, read-encrypted-data-keys-section-into}
+use Rattle.format.specs.Keys.{Max, read-encrypted-data-key, read-encrypted-data-keys-of, read-encrypted-data-keys-section, read-encrypted-data-keys-section-into}
 use Rattle.format.specs.Body.{Which, read-opening-of, read-opening, read-closing-of, read-closing, Opening, Request, after-keys, after-context, after-opening, read-body}
 use Rattle.format.specs.Auth.{read-header-auth-tag-of, read-header-auth-tag}
 use Rattle.format.specs.Refusals.{WantsWithin, Nearness}
@@ -79,7 +79,7 @@ unfolding read-encrypted-data-key
 key-wants = bind-wants (text-wants no-end 16) (λ p g. bind-wants (entry-wants no-end) (λ i g. bind-wants (entry-wants no-end) (λ c g. return-wants _)))
 
 keys-wants : (max : Max) → Header Any (read-encrypted-data-keys-section max)
-unfolding read-encrypted-data-keys-section
+unfolding read-encrypted-data-keys-section read-encrypted-data-keys-of
 keys-wants max = bind-wants uint16-wants (λ count g. then-wants (test-wants 38 _) (then-wants (test-wants 15 _) (repeat-wants count (λ acc. key-wants) [])))
 
 keys-into-wants : (max : Max) (room : ℕ) → Header Any (read-encrypted-data-keys-section-into max room)

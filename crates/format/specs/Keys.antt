@@ -38,13 +38,18 @@ read-encrypted-data-key = do
   cipher ← read-short-length-seq no-end
   return (record { keyProviderId = provider; keyProviderInfo = info; ciphertext = cipher })
 
--- ReadEncryptedDataKeysSection: the count is tested before any key is read. 38: there is no key
+-- what follows the count: the maximum is tested before any key is read
+unfoldable pub read-encrypted-data-keys-of : Max → ℕ → Reader (List EncryptedDataKeyAt)
+read-encrypted-data-keys-of max count = do
+  test 15 (within count max)
+  repeat count (λ acc. read-encrypted-data-key) []
+
+-- ReadEncryptedDataKeysSection. 38: there is no key
 unfoldable pub read-encrypted-data-keys-section : Max → Reader (List EncryptedDataKeyAt)
 read-encrypted-data-keys-section max = do
   count ← read-uint16
   test 38 (not (eqb count 0))
-  test 15 (within count max)
-  repeat count (λ acc. read-encrypted-data-key) []
+  read-encrypted-data-keys-of max count
 
 -- the same as an operation of its own, with a table of that many numbers
 unfoldable pub read-encrypted-data-keys-section-into : Max → ℕ → Reader (List EncryptedDataKeyAt)

@@ -7,11 +7,11 @@ use mathlib.Core.List.{List, [], map, _++_}
 use Prim.Native.Nat.{ℕ, _+_, _*_}
 use lib.Dec.{leb, ltb, eqb}
 use lib.ListN.{length}
-use Rattle.format.specs.Read.{Reader, _>>=_, _>>_, return, test, no-end, repeat, enclosed}
+use Rattle.format.specs.Read.{Reader, _>>=_, _>>_, return, test, no-end, enclosed}
 use Rattle.format.specs.Serialize.{Part, read-uint16, images}
 use Rattle.format.specs.Fields.{PairAt, pair-of, EncryptedDataKey, EncryptedDataKeyAt, key-parts, HeaderBody}
 use Rattle.format.specs.Context.{seen, pair-length, linear-length, pairs-limit, Mode, tolerant, read-aad-pair, read-aad-by, ContextAt, with-mark, look-up}
-use Rattle.format.specs.Keys.{Max, within, read-encrypted-data-key, write-encrypted-data-keys-section}
+use Rattle.format.specs.Keys.{Max, read-encrypted-data-keys-of, write-encrypted-data-keys-section}
 use Rattle.format.specs.OnlyAuthenticated.{only-authenticated, in-twos, fitting}
 use Rattle.format.specs.Body.{Opening, read-opening, Request, after-keys, image}
 use Rattle.format.specs.Checks.{Check, each, count-checks, key-checks, pairs-checks, body-checks-of}
@@ -58,8 +58,7 @@ source-write-only-authenticated text required room = do
 unfoldable pub source-read-encrypted-data-keys-section : Max → Reader (List EncryptedDataKeyAt)
 source-read-encrypted-data-keys-section max = do
   count ← read-uint16
-  test 15 (within count max)
-  repeat count (λ acc. read-encrypted-data-key) []
+  read-encrypted-data-keys-of max count
 
 unfoldable pub source-read-encrypted-data-keys-section-into : Max → ℕ → Reader (List EncryptedDataKeyAt)
 source-read-encrypted-data-keys-section-into max room = do

@@ -15,7 +15,7 @@ use Rattle.format.specs.Frames.{Frame, write-frames}
 use Rattle.format.specs.Checks.{Check, check, first, each, frame-checks, content-length, frames-checks}
 use Rattle.format.specs.Lent.{items, here, part-in, places, in-text, frame-in, frames-in, table-checks, size-of, writing-frames}
 use Rattle.format.specs.FramesWritten.{last-of, FramesToWrite}
-use Rattle.format.proofs.Firsts.{holds}
+use Rattle.format.proofs.Firsts.{holds, first-cong}
 use Rattle.format.proofs.Tables.{items-length}
 use Rattle.format.proofs.FrameLaws.{frames-length}
 use Rattle.format.proofs.FramesWritten.{some-frames, taken}
@@ -25,7 +25,7 @@ use Rattle.checks.specs.declared.Checked.{Checked}
 use Rattle.checks.specs.declared.Checked.the-variants.{Passes}
 use Rattle.checks.specs.declared.WriteAnswer.{WriteAnswer}
 use Rattle.checks.specs.declared.WriteAnswer.the-variants.{Written}
-use Rattle.checks.proofs.Stages.{first-cong, stage-none}
+use Rattle.checks.proofs.Stages.{stage-none}
 use Rattle.checks.proofs.Parts.{part-here, part-length}
 use Rattle.checks.proofs.Writers.{told-none}
 use Rattle.frames_write.specs.Table.{sealed-at, content-at, contents-in, lengths-checks, frames-size, FrameThere, FramesReady}

@@ -6,7 +6,7 @@ use native.Mathlib.Omega.{arith}
 use Rattle.format.specs.Read.{no-end, accepted, at}
 use Rattle.format.specs.Serialize.{Part}
 use Rattle.format.specs.Fields.{EncryptedDataKeyAt}
-use Rattle.format.specs.Keys.{Max, read-encrypted-data-key, read-encrypted-data-keys-section}
+use Rattle.format.specs.Keys.{Max, read-encrypted-data-key, read-encrypted-data-keys-of, read-encrypted-data-keys-section}
 use Rattle.format.specs.Places.{entry-here, entry-end, key-here, key-end}
 use Rattle.steps.proofs.Tidy.{Tidy, tidy, uint16-tidy, entry-tidy, text-tidy}
 use Rattle.steps.proofs.Steps.{un-bind, un-test, un-return}
@@ -21,7 +21,7 @@ unfolding read-encrypted-data-key
 key-tidy = search tidy depth 20
 
 pub section-tidy : (max : Max) → Tidy (read-encrypted-data-keys-section max)
-unfolding read-encrypted-data-keys-section
+unfolding read-encrypted-data-keys-section read-encrypted-data-keys-of
 section-tidy max = search (tidy, key-tidy) depth 20
 
 three : (p q i j c d : Part) → p ≡ q → i ≡ j → c ≡ d
@@ -50,7 +50,7 @@ key-kind = record { tidy = λ acc. key-tidy; known = λ acc. key-known }
 
 -- an accepted section: its keys stand from the third byte on
 pub section-known : (max : Max) (m : List ℕ) (start : ℕ) (ks : List EncryptedDataKeyAt) (t : ℕ) → at (read-encrypted-data-keys-section max) m start ≡ accepted ks t → Holds key-here key-end m (start + 2) ks t
-unfolding read-encrypted-data-keys-section
+unfolding read-encrypted-data-keys-section read-encrypted-data-keys-of
 section-known max m start ks t e =
     let x = un-bind _ uint16-tidy m start ks t e in
     let c = uint16-known m start (x .0) (x .1) (x .2) in

@@ -7,10 +7,10 @@ use native.Mathlib.Omega.{arith}
 use lib.Dec.{leb}
 use lib.ListN.{length}
 use borrow.Author.Tests.{eq-eqb, ne-eqb}
-use Rattle.format.specs.Read.{_>>_, test, no-end, accepted, at, repeat}
+use Rattle.format.specs.Read.{no-end, accepted, at, repeat}
 use Rattle.format.specs.Serialize.{read-uint16, read-short-length-seq}
 use Rattle.format.specs.Context.{read-text}
-use Rattle.format.specs.Keys.{within, read-encrypted-data-key, read-encrypted-data-keys-section}
+use Rattle.format.specs.Keys.{within, read-encrypted-data-key, read-encrypted-data-keys-of, read-encrypted-data-keys-section}
 use Rattle.format.specs.Places.{number16}
 use Rattle.steps.proofs.Tidy.{uint16-tidy, entry-tidy, text-tidy}
 use Rattle.steps.proofs.Steps.{go, stop, pass, fail, gives}
@@ -94,15 +94,17 @@ module _ (max : Max) (m : List ℕ) (s : ℕ) (x : Number) (xIs : x ≡ number-o
     keys-38 e r f = f ∙ sym (rw (go _ uint16-tidy m s count first c, fail 38 _ _ m first (ap not (eq-eqb _ _ e))))
 
   module _ (count first : ℕ) (b : x ≡ number.Is count first) (some : count ≡ 0 → ⊥) (d : Bool) (dIs : d ≡ within count (max-of max)) where
-    counted : at (read-encrypted-data-keys-section (max-of max)) m s ≡ at (test 15 (within count (max-of max)) >> repeat count any-key []) m first
+    counted : at (read-encrypted-data-keys-section (max-of max)) m s ≡ at (read-encrypted-data-keys-of (max-of max) count) m first
     unfolding read-encrypted-data-keys-section
     counted = go _ uint16-tidy m s count first (c count first b) ∙ pass 38 _ _ m first (ap not (ne-eqb _ _ some))
 
     pub keys-15 : d ≡ false → (r : KeysAnswer) → r ≡ Refused (because 15 0) → r ≡ keys-of (at (read-encrypted-data-keys-section (max-of max)) m s)
+    unfolding read-encrypted-data-keys-of
     keys-15 e r f = f ∙ sym (rw (counted, fail 15 _ _ m first (sym dIs ∙ e)))
 
     module _ (dt : d ≡ true) (e : Next) (eIs : e ≡ next-of (at (repeat count any-key []) m first)) where
       all : at (read-encrypted-data-keys-section (max-of max)) m s ≡ at (repeat count any-key []) m first
+      unfolding read-encrypted-data-keys-of
       all = counted ∙ pass 15 _ _ m first (sym dIs ∙ dt)
 
       pub keys-stop : (q : Refusal) → e ≡ next.Not q → (a : Refusal) → a ≡ why-next e → Refused a ≡ keys-of (at (read-encrypted-data-keys-section (max-of max)) m s)

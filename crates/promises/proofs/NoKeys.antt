@@ -8,7 +8,6 @@ use lib.ListN.{length}
 use Rattle.format.specs.Read.{Answer, accepted, refused, operation}
 use Rattle.format.specs.Serialize.{Bytes}
 use Rattle.format.specs.Fields.{EncryptedDataKeyAt}
-use Rattle.format.specs.Fields.{HeaderBody as BodyRead}
 use Rattle.format.specs.Context.{Mode, tolerant}
 use Rattle.format.specs.Keys.{Max, read-encrypted-data-keys-section-into}
 use Rattle.format.specs.Body.{Which, either}
@@ -23,28 +22,23 @@ use Rattle.keys.specs.declared.KeysAnswer.the-variants as keys
 use Rattle.checks.specs.Answers.{Writes}
 use Rattle.checks.specs.declared.WriteAnswer.{WriteAnswer}
 use Rattle.checks.specs.declared.WriteAnswer.the-variants.{Written}
-use Rattle.body_reader.specs.Codes.{body-code}
 use Rattle.body_reader.specs.declared.HeaderBody.{HeaderBody}
 use Rattle.body_reader.specs.declared.HeaderBodyAnswer.the-variants.{Accepted}
-use Rattle.promises.specs.Reader.{Call, reading, Meets, Accepts}
+use Rattle.promises.specs.Reader.{Call, reading, Meets}
 use Rattle.promises.specs.Writer.{fields, mark}
 use Rattle.promises.specs.NoKeys.{NoKeysPromises}
-use Rattle.promises.proofs.Reader.{accepts, refuses, accepted-is}
+use Rattle.promises.proofs.Reader.{accepts, refuses, record-is, accepted-is}
 use Rattle.promises.proofs.Writer.{sentence-4, by-checks}
 
 empty : {A : Type 0} (xs : List A) → length xs ≡ 0 → xs ≡ []
 empty [] e = refl
 empty (x ∷ xs) e = absurd (omega arith)
 
--- the code's record has as many keys as the body
-keys-are : (c : Call) (b : BodyRead) (x : HeaderBody) (t : ℕ) → Accepts c b t → c .answer ≡ Accepted x t → x .keyCount ≡ length (b .keys)
-keys-are c b x t call e = let a : c .answer ≡ Accepted (body-code b) t = call .answer in let z : body-code b ≡ x = cc in rw (← z) refl
-
 body-read : (which : Which) (mode : Mode) (max : Max) (m : List ℕ) (s : ℕ) (c : Call) → Bytes m → Meets (reading which mode max m s c) c
     → (x : HeaderBody) (tail : ℕ) → c .answer ≡ Accepted x tail → x .keyCount ≡ 0 → ⊥
 body-read which mode max m s c hb call x tail e none-there =
     let (b, said) = accepted-is (c .answer) (reading which mode max m s c) (call .answer) x tail e in
-    let count = keys-are c b x tail (accepts c (reading which mode max m s c) call b tail said) e in
+    let count : x .keyCount ≡ length (b .keys) = ap (λ (y : HeaderBody). y .keyCount) (record-is c b x tail (accepts c (reading which mode max m s c) call b tail said) e) in
     demand-3 .no-keys .no-reader which mode max (length (c .pairs)) (length (c .keys)) m s hb b tail said (empty (b .keys) (sym count ∙ none-there))
 
 section-read : (max : Max) (room : ℕ) (m : List ℕ) (s : ℕ) → Bytes m → (before after : List ℕ) (r : KeysAnswer)

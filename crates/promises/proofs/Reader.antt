@@ -33,6 +33,10 @@ module _ (c : Call) (o : Answer BodyRead) (call : Meets o c) where
   pub refuses : (k p : ℕ) → o ≡ refused k p → Refuses c k p
   refuses k p e = record { answer = rw e at (call .answer); pairTable = rw e at (call .pairTable); keyTable = rw e at (call .keyTable) }
 
+-- the code's record is the body's
+pub record-is : (c : Call) (b : BodyRead) (x : HeaderBody) (t : ℕ) → Accepts c b t → c .answer ≡ Accepted x t → x ≡ body-code b
+record-is c b x t call e = let a : c .answer ≡ Accepted (body-code b) t = call .answer in let z : body-code b ≡ x = cc in sym z
+
 module _ (m : List ℕ) (c : Call) (b : BodyRead) (f : Fields) (t : ℕ) (given : Gives m b f) (call : Accepts c b t) where
   gives-fields : GivesFields m c (body-code b) f
   unfolding fields-of
@@ -51,14 +55,14 @@ module _ (m : List ℕ) (c : Call) (b : BodyRead) (f : Fields) (t : ℕ) (given 
       }
 
   gives-record : (x : HeaderBody) → c .answer ≡ Accepted x t → GivesFields m c x f
-  gives-record x e = let a : c .answer ≡ Accepted (body-code b) t = call .answer in let z : body-code b ≡ x = cc in rw (← z) gives-fields
+  gives-record x e = rw (record-is c b x t call e) gives-fields
 
 -- the mark, as the code's record has it
 form-is : (c : Call) (b : BodyRead) (x : HeaderBody) (t : ℕ) → Accepts c b t → c .answer ≡ Accepted x t → x .numbers .form ≡ form-number (b .form)
-form-is c b x t call e = let a : c .answer ≡ Accepted (body-code b) t = call .answer in let z : body-code b ≡ x = cc in rw (← z) refl
+form-is c b x t call e = ap (λ (y : HeaderBody). y .numbers .form) (record-is c b x t call e)
 
 pairs-are : (c : Call) (b : BodyRead) (x : HeaderBody) (t : ℕ) → Accepts c b t → c .answer ≡ Accepted x t → x .pairCount ≡ length (b .pairs)
-pairs-are c b x t call e = let a : c .answer ≡ Accepted (body-code b) t = call .answer in let z : body-code b ≡ x = cc in rw (← z) refl
+pairs-are c b x t call e = ap (λ (y : HeaderBody). y .pairCount) (record-is c b x t call e)
 
 pub accepted-is : (r : HeaderBodyAnswer) (o : Answer BodyRead) → r ≡ body-of o → (x : HeaderBody) (t : ℕ) → r ≡ Accepted x t → (b : BodyRead) × (o ≡ accepted b t)
 accepted-is r (accepted b u) e x t f = (b, ap (accepted b) (cc))
