@@ -2,7 +2,7 @@
 use mathlib.Core.Path.{_≡_, refl, ap, _∙_}
 use mathlib.Core.Bool.{Bool, true, false, not}
 use mathlib.Core.Option.{Option, none, some}
-use mathlib.Core.List.{List, [], _∷_, _++_, map}
+use mathlib.Core.List.{List, [], _∷_, _++_, map, List·Memᴰ}
 use Prim.Native.Nat.{ℕ, zero, suc, _+_, _*_, _/_, _%_, _<_}
 use native.Mathlib.Omega.{arith}
 use lib.ListN.{length, getD, take, drop, replicate, length-replicate}
@@ -11,22 +11,22 @@ use Rattle.format.specs.Serialize.{every}
 use Rattle.format.specs.Read.{Reader, Answer, accepted, refused, operation}
 use Rattle.format.specs.Context.{Mode, tolerant, strict, read-aad-section, read-aad-section-into, look-up, find-value}
 use Rattle.format.specs.Keys.{at-most, read-encrypted-data-keys-section-into}
-use Rattle.format.specs.Body.{Which, either, v1-only, v2-only, read-header-body}
+use Rattle.format.specs.Policies.{Policy, no-policy, forbid-encrypt-allow-decrypt, require-encrypt-allow-decrypt, require-encrypt-require-decrypt, lets-read}
+use Rattle.format.specs.Body.{Which, either, v1-only, v2-only, read-header-body-under}
 use Rattle.format.specs.Fields.{Form, today, old}
 use Rattle.format.specs.Auth.{read-header-auth-tag, read-header-auth-tag-of, zeros}
 use Rattle.format.specs.Frames.{read-frames-into}
 use Rattle.format.specs.OnlyAuthenticated.{write-only-authenticated}
 use Rattle.format.specs.Checks.{first, frames-checks}
-use Rattle.format.specs.Lent.{items, in-text, part-in, frame-in, frames-in, table-checks, BodyToWrite, fields-to-write, size-of, writing-header-body, writing-frames}
-use Rattle.format.specs.Refusals.{section-refusals, opening-refusals, reserved-refusals, frame-refusals, closing-refusals, key-section-refusals, keys-refusals, body-refusals, auth-refusals, frames-refusals}
-use Rattle.format.specs.Size.{size-refusals}
+use Rattle.format.specs.Lent.{items, in-text, part-in, frame-in, frames-in, table-checks, BodyToWrite, fields-to-write, size-of, writing-header-body-under, writing-header-body, writing-frames}
+use Rattle.format.specs.Refusals.{section-refusals, lead-refusals, forbidden-refusals, opening-refusals, passing, numbers-behind, reserved-refusals, frame-refusals, closing-refusals, key-section-refusals, keys-refusals, body-refusals, auth-refusals, frames-refusals}
 use Rattle.cases.specs.Cases.{H, opened, laid-out}
 use Rattle.cases.specs.Headers.{bytes-from, V2}
 use Rattle.cases.specs.Tags.{selecting}
 use Rattle.format.proofs.Firsts.{first-pass, first-stop}
+use Rattle.format.proofs.Members.{no-member}
 use Rattle.format.proofs.Tables.{items-length}
 use Rattle.cases.specs.Frames.{iv, tag, regular, final, two, two-places, of-frames}
-use Rattle.cases.specs.Faults.{id, some-text, one, lent-in}
 use Rattle.cases.specs.Occurs.{listed-for}
 
 -- a refusal's number
@@ -87,53 +87,66 @@ one-key = 0x00 ∷ 0x00 ∷ 0x00 ∷ 0x01 ∷ 0x00 ∷ 0x00 ∷ 0x00 ∷ 0x00 �
 abbrev reserved : List (List ℕ)
 reserved = (one-key ++ (0x02 ∷ 0x00 ∷ 0x00 ∷ 0x00 ∷ 0x01 ∷ [])) ∷ (one-key ++ (0x02 ∷ 0x00 ∷ 0x00 ∷ 0x00 ∷ 0x00 ∷ 0x0B ∷ [])) ∷ []
 
-abbrev closings : Which → List (List ℕ)
-closings either = reserved ++ ((one-key ++ (0x02 ∷ closing-bytes true)) ∷ [])
-closings v1-only = reserved
-closings v2-only = []
+abbrev reserved-of : Bool → List (List ℕ)
+reserved-of true = reserved
+reserved-of false = []
 
-abbrev pub is-v1 : Which → Bool
-is-v1 either = true
-is-v1 v1-only = true
-is-v1 v2-only = false
+abbrev closings : Bool → Which → List (List ℕ)
+closings v1 either = reserved-of v1 ++ ((one-key ++ (0x02 ∷ closing-bytes v1)) ∷ [])
+closings v1 v1-only = reserved
+closings v1 v2-only = []
 
--- what refuses behind an opening, with at most one key, a table for one pair and none for keys: the section's numbers, 38, 15 to 17, the
+-- what refuses behind an opening of a version, with at most one key, a table for one pair and none for keys: the section's numbers, 38, 15 to 17, the
 -- closing's, two pairs with a key and one key
-abbrev behind-opening : Which → List (List ℕ)
-behind-opening which =
+abbrev behind-opening : Bool → Which → List (List ℕ)
+behind-opening v1 which =
     sections
     ++ (((0x00 ∷ 0x00 ∷ 0x00 ∷ 0x00 ∷ []) ∷ (0x00 ∷ 0x00 ∷ 0x00 ∷ 0x02 ∷ []) ∷ (0x00 ∷ 0x00 ∷ 0x00 ∷ 0x01 ∷ 0x00 ∷ 0x01 ∷ 0xFF ∷ []) ∷ (one-key ++ (0x03 ∷ [])) ∷ [])
-    ++ (closings which
-    ++ ((0x00 ∷ 0x0B ∷ 0x00 ∷ 0x02 ∷ 0x00 ∷ 0x00 ∷ 0x00 ∷ 0x00 ∷ 0x00 ∷ 0x01 ∷ 0x61 ∷ 0x00 ∷ 0x00 ∷ drop 2 one-key ++ (0x01 ∷ closing-bytes (is-v1 which)))
-    ∷ (one-key ++ (0x01 ∷ closing-bytes (is-v1 which)))
+    ++ (closings v1 which
+    ++ ((0x00 ∷ 0x0B ∷ 0x00 ∷ 0x02 ∷ 0x00 ∷ 0x00 ∷ 0x00 ∷ 0x00 ∷ 0x00 ∷ 0x01 ∷ 0x61 ∷ 0x00 ∷ 0x00 ∷ drop 2 one-key ++ (0x01 ∷ closing-bytes v1))
+    ∷ (one-key ++ (0x01 ∷ closing-bytes v1))
     ∷ [])))
 
-abbrev pub body-calls : Which → List Call
-body-calls which = far-and-short ++ (calls (openings which) ++ calls (map (λ (b : List ℕ). opening-bytes (is-v1 which) ++ b) (behind-opening which)))
+abbrev opened-by : Bool → Which → List (List ℕ)
+opened-by v1 which = map (λ (b : List ℕ). opening-bytes v1 ++ b) (behind-opening v1 which)
 
-abbrev pub body-said : Which → Mode → Call → Option ℕ
-body-said which mode = said (read-header-body which mode (at-most 1) 4 0)
+-- the version of the messages that come past the opening; and 39, of what stands before H's message ID. True: version 1 is let be read
+abbrev pub is-v1 : Bool → Which → Bool
+is-v1 true either = true
+is-v1 true v1-only = true
+is-v1 true v2-only = false
+is-v1 false which = false
+
+abbrev past-7 : Bool → Which → List (List ℕ)
+past-7 true which = opened-by (is-v1 true which) which
+past-7 false either = take 4 H ∷ opened-by false either
+past-7 false v1-only = take 4 H ∷ []
+past-7 false v2-only = opened-by false v2-only
+
+abbrev pub body-calls : Policy → Which → List Call
+body-calls policy which = far-and-short ++ (calls (openings which) ++ calls (past-7 (lets-read policy 1) which))
+
+abbrev pub body-said : Policy → Which → Mode → Call → Option ℕ
+body-said policy which mode = said (read-header-body-under policy which mode (at-most 1) 4 0)
 
 -- in both modes the numbers of the tolerant list
-abbrev pub Answered : Which → Type 0
-Answered which = (mode : Mode) → map (body-said which mode) (body-calls which) ≡ map some (listed-for which tolerant)
+abbrev pub Answered : Policy → Which → Type 0
+Answered policy which = (mode : Mode) → map (body-said policy which mode) (body-calls policy which) ≡ map some (listed-for policy which tolerant)
 
-either-answers : Answered either
-unfolding opened said sections H V2 bytes-from opening-refusals section-refusals reserved-refusals frame-refusals closing-refusals key-section-refusals body-refusals
-either-answers mode = refl
-
-v1-answers : Answered v1-only
-unfolding opened said sections H V2 bytes-from opening-refusals section-refusals reserved-refusals frame-refusals closing-refusals key-section-refusals body-refusals
-v1-answers mode = refl
-
-v2-answers : Answered v2-only
-unfolding opened said sections H V2 bytes-from opening-refusals section-refusals reserved-refusals frame-refusals closing-refusals key-section-refusals body-refusals
-v2-answers mode = refl
-
-pub body-answers : (which : Which) → Answered which
-body-answers either = either-answers
-body-answers v1-only = v1-answers
-body-answers v2-only = v2-answers
+pub body-answers : (policy : Policy) (which : Which) → Answered policy which
+unfolding opened said sections H V2 bytes-from opening-refusals lead-refusals forbidden-refusals passing numbers-behind section-refusals reserved-refusals frame-refusals closing-refusals key-section-refusals body-refusals
+body-answers no-policy either mode = refl
+body-answers no-policy v1-only mode = refl
+body-answers no-policy v2-only mode = refl
+body-answers forbid-encrypt-allow-decrypt either mode = refl
+body-answers forbid-encrypt-allow-decrypt v1-only mode = refl
+body-answers forbid-encrypt-allow-decrypt v2-only mode = refl
+body-answers require-encrypt-allow-decrypt either mode = refl
+body-answers require-encrypt-allow-decrypt v1-only mode = refl
+body-answers require-encrypt-allow-decrypt v2-only mode = refl
+body-answers require-encrypt-require-decrypt either mode = refl
+body-answers require-encrypt-require-decrypt v1-only mode = refl
+body-answers require-encrypt-require-decrypt v2-only mode = refl
 
 -- the old form of an empty context, which the strict mode alone refuses
 abbrev pub old-form : List ℕ
@@ -143,11 +156,21 @@ pub strict-section : said (read-aad-section strict) (old-form, 0) ≡ some 21
 unfolding opened said
 strict-section = refl
 
-pub strict-body : (which : Which) → said (read-header-body which strict (at-most 1) 4 0) (opening-bytes (is-v1 which) ++ old-form, 0) ≡ some 21
-unfolding opened said H V2 bytes-from
-strict-body either = refl
-strict-body v1-only = refl
-strict-body v2-only = refl
+pub strict-body : (policy : Policy) (which : Which) → List·Memᴰ 21 (listed-for policy which strict)
+    → said (read-header-body-under policy which strict (at-most 1) 4 0) (opening-bytes (is-v1 (lets-read policy 1) which) ++ old-form, 0) ≡ some 21
+unfolding opened said H V2 bytes-from opening-refusals lead-refusals forbidden-refusals passing numbers-behind body-refusals
+strict-body no-policy either h = refl
+strict-body no-policy v1-only h = refl
+strict-body no-policy v2-only h = refl
+strict-body forbid-encrypt-allow-decrypt either h = refl
+strict-body forbid-encrypt-allow-decrypt v1-only h = refl
+strict-body forbid-encrypt-allow-decrypt v2-only h = refl
+strict-body require-encrypt-allow-decrypt either h = refl
+strict-body require-encrypt-allow-decrypt v1-only h = refl
+strict-body require-encrypt-allow-decrypt v2-only h = refl
+strict-body require-encrypt-require-decrypt either h = refl
+strict-body require-encrypt-require-decrypt v1-only h = absurd (no-member (1 ∷ 2 ∷ 3 ∷ 4 ∷ 5 ∷ 6 ∷ 7 ∷ 39 ∷ []) 21 refl h)
+strict-body require-encrypt-require-decrypt v2-only h = refl
 
 -- one pair and no table; no pair and any key; a required table of odd length; one required pair and no output
 pub no-table : (mode : Mode) → said (read-aad-section-into mode 0) (0x00 ∷ 0x06 ∷ 0x00 ∷ 0x01 ∷ 0x00 ∷ 0x00 ∷ 0x00 ∷ 0x00 ∷ [], 0) ≡ some 22
@@ -202,45 +225,6 @@ frames-calls =
 pub frames-answers : map frames-said frames-calls ≡ map some frames-refusals
 unfolding opened of-frames said frames-calls final iv tag bytes-from frames-refusals
 frames-answers = refl
-
--- bodies to write that are H but for one thing each, by what is told of their size; 27 by a part, and 13 by all parts together
-abbrev pub size-said : BodyToWrite → Option ℕ
-size-said b = number-of (size-of (writing-header-body b))
-
-abbrev opened-by : ℕ → ℕ → ℕ → List ℕ → BodyToWrite
-opened-by version messageType suite messageId = lent-in today some-text version messageType suite messageId [] one 2 12 [] 1
-
-abbrev with-pairs : Form → List ℕ → List ℕ → BodyToWrite
-with-pairs form text pairTable = lent-in form text 1 0x80 0x0178 id pairTable one 2 12 [] 1
-
-abbrev closed-by : List ℕ → ℕ → ℕ → List ℕ → ℕ → BodyToWrite
-closed-by = lent-in today some-text 1 0x80 0x0178 id []
-
-unfoldable pub size-calls : List BodyToWrite
-size-calls =
-    opened-by 3 0x80 0x0178 id
-    ∷ opened-by 1 0 0x0178 id
-    ∷ opened-by 1 0x80 0 id
-    ∷ opened-by 1 0x80 0x0478 id
-    ∷ opened-by 1 0x80 0x0178 []
-    ∷ with-pairs today some-text (0 ∷ 0 ∷ [])
-    ∷ with-pairs today (zeros 65536) (0 ∷ 65536 ∷ 0 ∷ 0 ∷ [])
-    ∷ with-pairs today some-text (6 ∷ 1 ∷ 0 ∷ 0 ∷ [])
-    ∷ with-pairs today some-text (0 ∷ 0 ∷ 6 ∷ 1 ∷ [])
-    ∷ with-pairs today some-text (0 ∷ 0 ∷ 0 ∷ 0 ∷ 0 ∷ 0 ∷ 0 ∷ 0 ∷ [])
-    ∷ with-pairs today (zeros 65530) (0 ∷ 65530 ∷ 0 ∷ 0 ∷ [])
-    ∷ with-pairs old some-text (0 ∷ 0 ∷ 0 ∷ 0 ∷ [])
-    ∷ closed-by [] 2 12 [] 1
-    ∷ closed-by (6 ∷ 1 ∷ 0 ∷ 0 ∷ 0 ∷ 0 ∷ []) 2 12 [] 1
-    ∷ closed-by one 0 12 [] 1
-    ∷ closed-by one 2 0 [] 1
-    ∷ closed-by one 2 12 (0 ∷ []) 1
-    ∷ closed-by one 2 12 [] 0
-    ∷ []
-
-pub size-answers : map size-said size-calls ≡ map some size-refusals
-unfolding opened laid-out size-calls size-refusals H zeros items in-text part-in table-checks fields-to-write writing-header-body
-size-answers = refl
 
 -- frames to write: a frame length, a text and a table. 27 is of 65,536 frames, a table too long to compute with
 abbrev pub FramesToWrite : Type 0

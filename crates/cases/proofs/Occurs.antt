@@ -1,6 +1,6 @@
 -- Each number of a list is answered, by a call of the tables in proofs/Calls. Assumes nothing.
 use mathlib.Core.Path.{_≡_, refl, sym, ap, _∙_}
-use mathlib.Core.Bool.{true}
+use mathlib.Core.Bool.{Bool, true, false}
 use mathlib.Core.Logic.{_⊎_, ⊎-elim}
 use mathlib.Core.Option.{Option, none, some}
 use mathlib.Core.List.{List, [], _∷_, _++_, map, List·Memᴰ, List·Memᴰ·not-nil, List·Memᴰ·cases-cons}
@@ -10,18 +10,20 @@ use lib.ListN.{replicate}
 use Rattle.format.specs.Read.{Reader, Answer, accepted, refused, operation}
 use Rattle.format.specs.Context.{Mode, tolerant, strict, read-aad-section, read-aad-section-into, look-up, find-value}
 use Rattle.format.specs.Keys.{at-most}
-use Rattle.format.specs.Body.{Which, either, v1-only, v2-only, read-header-body}
+use Rattle.format.specs.Policies.{Policy, lets-read}
+use Rattle.format.specs.Body.{Which, either, v1-only, v2-only, tests-frames, read-header-body-under}
 use Rattle.format.specs.Auth.{read-header-auth-tag}
 use Rattle.format.specs.Frames.{read-frames-into}
 use Rattle.format.specs.OnlyAuthenticated.{write-only-authenticated}
-use Rattle.format.specs.Refusals.{section-refusals, context-refusals, find-refusals, only-authenticated-refusals, opening-refusals, reserved-refusals, frame-refusals, closing-refusals, key-section-refusals, keys-refusals, body-refusals, auth-refusals, frames-refusals}
+use Rattle.format.specs.Refusals.{section-refusals, context-refusals, find-refusals, only-authenticated-refusals, lead-refusals, forbidden-refusals, opening-refusals, passing, numbers-behind, reserved-refusals, frame-refusals, closing-refusals, key-section-refusals, keys-refusals, body-refusals, auth-refusals, frames-refusals}
 use Rattle.format.specs.Checks.{first}
-use Rattle.format.specs.Lent.{written-of, Writing, size-of, writing-header-body, writing-frames}
+use Rattle.format.specs.Lent.{written-of, Writing, size-of, writing-header-body-under, writing-frames}
 use Rattle.format.specs.Size.{size-refusals, frames-size-refusals}
 use Rattle.format.proofs.Members.{has-all, members}
 use Rattle.format.proofs.Messages.{refused-stays}
 use Rattle.cases.specs.Occurs.{Answers, listed-for, Occurs}
-use Rattle.cases.proofs.Calls.{number-of, Call, calls, said, sections, far-and-short, section-answers, opening-bytes, is-v1, body-calls, body-answers, old-form, strict-section, strict-body, no-table, no-pair, odd-table, no-output, key-calls, key-answers, auth-said, auth-calls, auth-answers, frames-said, frames-calls, frames-answers, size-said, size-calls, size-answers, frames-size-said, but-27, frames-size-calls, frames-size-answers, many-frames}
+use Rattle.cases.proofs.Sizes.{size-said, size-calls, size-answers}
+use Rattle.cases.proofs.Calls.{number-of, Call, calls, said, sections, far-and-short, section-answers, opening-bytes, is-v1, body-calls, body-answers, old-form, strict-section, strict-body, no-table, no-pair, odd-table, no-output, key-calls, key-answers, auth-said, auth-calls, auth-answers, frames-said, frames-calls, frames-answers, frames-size-said, but-27, frames-size-calls, frames-size-answers, many-frames}
 
 -- a number that is answered by a call
 answered : {A : Type 0} (r : Reader A) (c : Call) (k : ℕ) → said r c ≡ some k → Answers r k
@@ -94,22 +96,31 @@ of-only-authenticated k h =
     (one-apart 31 common (31 ∷ common) refl k i))
     (one-apart 28 (31 ∷ common) only-authenticated-refusals refl k h)
 
--- a body
-without-21 : (which : Which) → has-all (21 ∷ listed-for which tolerant) (listed-for which strict) ≡ true
-unfolding opening-refusals section-refusals reserved-refusals frame-refusals closing-refusals key-section-refusals body-refusals
-without-21 either = refl
-without-21 v1-only = refl
-without-21 v2-only = refl
+-- a body, under each policy
+without-21 : (policy : Policy) (which : Which) → has-all (21 ∷ listed-for policy which tolerant) (listed-for policy which strict) ≡ true
+unfolding opening-refusals lead-refusals forbidden-refusals passing numbers-behind section-refusals reserved-refusals frame-refusals closing-refusals key-section-refusals body-refusals
+without-21 policy which = by (lets-read policy 1) which
+  where
+    by : (b : Bool) (which : Which)
+        → has-all (21 ∷ 1 ∷ 2 ∷ ((lead-refusals which ++ forbidden-refusals b which) ++ numbers-behind (passing b which) (section-refusals tolerant) key-section-refusals (tests-frames which)))
+        (1 ∷ 2 ∷ ((lead-refusals which ++ forbidden-refusals b which) ++ numbers-behind (passing b which) (section-refusals strict) key-section-refusals (tests-frames which))) ≡ true
+    by true either = refl
+    by true v1-only = refl
+    by true v2-only = refl
+    by false either = refl
+    by false v1-only = refl
+    by false v2-only = refl
 
-body-answered : (which : Which) (mode : Mode) (k : ℕ) → List·Memᴰ k (listed-for which tolerant) → Answers (read-header-body which mode (at-most 1) 4 0) k
-body-answered which mode k h = each-answered (read-header-body which mode (at-most 1) 4 0) (body-calls which) (listed-for which tolerant) (body-answers which mode) k h
+body-answered : (policy : Policy) (which : Which) (mode : Mode) (k : ℕ) → List·Memᴰ k (listed-for policy which tolerant) → Answers (read-header-body-under policy which mode (at-most 1) 4 0) k
+body-answered policy which mode k h =
+    each-answered (read-header-body-under policy which mode (at-most 1) 4 0) (body-calls policy which) (listed-for policy which tolerant) (body-answers policy which mode) k h
 
-of-body : (which : Which) (mode : Mode) (k : ℕ) → List·Memᴰ k (listed-for which mode) → Answers (read-header-body which mode (at-most 1) 4 0) k
-of-body which tolerant k h = body-answered which tolerant k h
-of-body which strict k h =
-    ⊎-elim (λ e. answered (read-header-body which strict (at-most 1) 4 0) (opening-bytes (is-v1 which) ++ old-form, 0) k (strict-body which ∙ ap some (sym e)))
-    (body-answered which strict k)
-    (one-apart 21 (listed-for which tolerant) (listed-for which strict) (without-21 which) k h)
+of-body : (policy : Policy) (which : Which) (mode : Mode) (k : ℕ) → List·Memᴰ k (listed-for policy which mode) → Answers (read-header-body-under policy which mode (at-most 1) 4 0) k
+of-body policy which tolerant k h = body-answered policy which tolerant k h
+of-body policy which strict k h =
+    ⊎-elim (λ e. answered (read-header-body-under policy which strict (at-most 1) 4 0) (opening-bytes (is-v1 (lets-read policy 1) which) ++ old-form, 0) k (strict-body policy which (rw e at h) ∙ ap some (sym e)))
+    (body-answered policy which strict k)
+    (one-apart 21 (listed-for policy which tolerant) (listed-for policy which strict) (without-21 policy which) k h)
 
 -- what is told of a size
 size-answered : (w : Writing) (k : ℕ) → number-of (size-of w) ≡ some k → size-of w ≡ refused k 0
@@ -133,9 +144,9 @@ occurs =
       of-find = of-find;
       of-only-authenticated = of-only-authenticated;
       of-keys = λ k h. (at-most 1, 0, each-answered _ key-calls keys-refusals key-answers k h);
-      of-body = λ which mode k h. (at-most 1, 4, 0, of-body which mode k h);
+      of-body = λ policy which mode k h. (at-most 1, 4, 0, of-body policy which mode k h);
       of-auth = λ k h. let (c, e) = among auth-said auth-calls auth-refusals auth-answers k h in (c .0, answered (read-header-auth-tag (c .0)) ([], c .1) k e);
       of-frames = λ k h. let (c, e) = among frames-said frames-calls frames-refusals frames-answers k h in (c .0, 0, answered (read-frames-into (c .0) 0) (c .1) k e);
-      of-size = λ k h. let (b, e) = among size-said size-calls size-refusals size-answers k h in (b, size-answered (writing-header-body b) k e);
+      of-size = λ policy k h. let (b, e) = among (size-said policy) (size-calls policy) (size-refusals policy) (size-answers policy) k h in (b, size-answered (writing-header-body-under policy b) k e);
       of-frames-size = of-frames-size;
     }

@@ -13,8 +13,8 @@ use Rattle.format.specs.Shared.{suites, version-in, read-message-format-version
 use Rattle.format.specs.Fields.{Form, today, form-number, Fields, HeaderBody}
 use Rattle.format.specs.Context.{seen, write-aad-pair, write-aad-pairs, write-aad, write-expanded-aad-section, write-aad-section, Mode, tolerant, strict, read-text, read-aad-pair, read-next-aad-pair, read-aad-by, read-aad, read-aad-of, read-aad-section, with-mark, read-aad-section-into}
 use Rattle.format.specs.Keys.{no-max, write-encrypted-data-key, write-encrypted-data-keys, write-encrypted-data-keys-section, read-encrypted-data-key, read-encrypted-data-keys-of, read-encrypted-data-keys-section}
-use Rattle.format.specs.Body.{either, read-opening-of, read-opening, read-closing-of, read-closing, after-keys, after-context, after-opening, read-body, read-header-body, write-opening-of, write-closing-of, image}
-use Rattle.format.specs.Checks.{first, each, pairs-checks, keys-checks, body-checks}
+use Rattle.format.specs.Body.{either, read-lead-of, read-lead, after-lead, read-opening, read-closing-of, read-closing, after-keys, after-context, after-opening, read-body, read-header-body-under, read-header-body, write-opening-of, write-closing-of, image}
+use Rattle.format.specs.Checks.{first, each, pairs-checks, keys-checks, body-checks-under, body-checks}
 use Rattle.format.specs.Lent.{place, pair-numbers, key-numbers}
 
 -- what is expected: the tail and the numbers read, or a refusal's number and position
@@ -67,6 +67,9 @@ H =
     ∷ 0x00 ∷ 0x00 ∷ 0x10 ∷ 0x00
     ∷ []
 
+abbrev pub H-read : Expected
+H-read = accepts 58 (1 ∷ 0x80 ∷ 0x0178 ∷ 0 ∷ 4 ∷ 16 ∷ 26 ∷ 4 ∷ 32 ∷ 2 ∷ 38 ∷ 2 ∷ 42 ∷ 1 ∷ 45 ∷ 3 ∷ 2 ∷ 12 ∷ 4096 ∷ 0 ∷ 0 ∷ [])
+
 unfoldable pub H-fields : Fields
 H-fields =
     record {
@@ -95,7 +98,7 @@ cases =
     ∷ section tolerant (0x00 ∷ 0x0A ∷ 0x00 ∷ 0x02 ∷ 0x00 ∷ 0x00 ∷ 0x00 ∷ 0x00 ∷ 0x00 ∷ 0x00 ∷ 0x00 ∷ 0x00 ∷ []) (refuses 12 0)
     ∷ section tolerant (0x00 ∷ 0x04 ∷ 0x00 ∷ 0x01 ∷ 0x00 ∷ 0x05 ∷ []) (refuses 32 0)
     ∷ section tolerant (0x00 ∷ 0x04 ∷ 0x00 ∷ 0x01 ∷ 0x00 ∷ 0x05 ∷ 0x61 ∷ 0x62 ∷ 0x63 ∷ 0x64 ∷ 0x65 ∷ 0x00 ∷ 0x00 ∷ []) (refuses 32 0)
-    ∷ body H 0 (accepts 58 (1 ∷ 0x80 ∷ 0x0178 ∷ 0 ∷ 4 ∷ 16 ∷ 26 ∷ 4 ∷ 32 ∷ 2 ∷ 38 ∷ 2 ∷ 42 ∷ 1 ∷ 45 ∷ 3 ∷ 2 ∷ 12 ∷ 4096 ∷ 0 ∷ 0 ∷ []))
+    ∷ body H 0 H-read
     ∷ writes today H-fields H
     ∷ body (take 22 H) 0 (shortage-at 34)
     ∷ body H 70 (shortage-at 71)
@@ -103,12 +106,12 @@ cases =
 
 -- to unfold this is to unfold all that a reader is made of
 unfoldable pub opened : Unit {0}
-unfolding _>>=_ _>>_ return test held repeat enclosed at operation read read-uint read-uint8 read-uint16 read-uint32 read-short-length-seq sum same-bytes rows first-byte octets suites version-in read-message-format-version read-esdk-suite-id read-content-type frame-fits seen read-text read-aad-pair read-next-aad-pair read-aad-by read-aad read-aad-of read-aad-section with-mark read-aad-section-into read-encrypted-data-key read-encrypted-data-keys-of read-encrypted-data-keys-section read-opening-of read-opening read-closing-of read-closing after-keys after-context after-opening read-body read-header-body
+unfolding _>>=_ _>>_ return test held repeat enclosed at operation read read-uint read-uint8 read-uint16 read-uint32 read-short-length-seq sum same-bytes rows first-byte octets suites version-in read-message-format-version read-esdk-suite-id read-content-type frame-fits seen read-text read-aad-pair read-next-aad-pair read-aad-by read-aad read-aad-of read-aad-section with-mark read-aad-section-into read-encrypted-data-key read-encrypted-data-keys-of read-encrypted-data-keys-section read-lead-of read-lead after-lead read-opening read-closing-of read-closing after-keys after-context after-opening read-body read-header-body-under
 opened = tt
 
 -- and a writer
 unfoldable pub laid-out : Unit {0}
-unfolding write-uint16 write-uint32 write-short-length-seq images every write-aad-pair write-aad-pairs write-aad write-expanded-aad-section write-aad-section write-encrypted-data-key write-encrypted-data-keys write-encrypted-data-keys-section write-opening-of write-closing-of image first each pairs-checks keys-checks body-checks
+unfolding write-uint16 write-uint32 write-short-length-seq images every write-aad-pair write-aad-pairs write-aad write-expanded-aad-section write-aad-section write-encrypted-data-key write-encrypted-data-keys write-encrypted-data-keys-section write-opening-of write-closing-of image first each pairs-checks keys-checks body-checks-under
 laid-out = tt
 
 pub marked : every passes cases ≡ true

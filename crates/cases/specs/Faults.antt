@@ -18,7 +18,7 @@ use Rattle.format.specs.Auth.{read-header-auth-tag, read-header-auth-tag-of, wr
 use Rattle.format.specs.Frames.{Frame, read-frames-into}
 use Rattle.format.specs.OnlyAuthenticated.{write-only-authenticated}
 use Rattle.format.specs.Checks.{first, pairs-checks, keys-checks, auth-checks, frames-checks}
-use Rattle.format.specs.Lent.{pair-numbers, key-numbers, frame-numbers, table-checks, Writing, refusal-of, BodyToWrite, fields-to-write, writing-aad-section, writing-encrypted-data-keys-section, writing-header-body, writing-header-auth-tag, writing-frames}
+use Rattle.format.specs.Lent.{pair-numbers, key-numbers, frame-numbers, table-checks, Writing, refusal-of, BodyToWrite, fields-to-write, writing-aad-section, writing-encrypted-data-keys-section, writing-header-body-under, writing-header-body, writing-header-auth-tag, writing-frames}
 use Rattle.cases.specs.Cases.{Expected, accepts, refuses, shortage-at, is, body-numbers, H, opened, laid-out}
 use Rattle.cases.specs.Headers.{bytes-from, V2}
 use Rattle.cases.specs.Tags.{selecting}
@@ -295,5 +295,5 @@ faults =
     ∷ []
 
 pub first-fault : every answered faults ≡ true
-unfolding opened laid-out selecting of-frames iv tag regular final two faults answered is H V2 bytes-from body-numbers look-up find-value zeros read-encrypted-data-keys-section-into read-header-auth-tag-of read-header-auth-tag write-header-auth-tag auth-checks table-checks refusal-of fields-to-write writing-aad-section writing-encrypted-data-keys-section writing-header-body writing-header-auth-tag
+unfolding opened laid-out selecting of-frames iv tag regular final two faults answered is H V2 bytes-from body-numbers look-up find-value zeros read-encrypted-data-keys-section-into read-header-auth-tag-of read-header-auth-tag write-header-auth-tag auth-checks table-checks refusal-of fields-to-write writing-aad-section writing-encrypted-data-keys-section writing-header-body-under writing-header-auth-tag
 first-fault = refl

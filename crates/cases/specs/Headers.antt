@@ -12,9 +12,9 @@ use Rattle.format.specs.Context.{tolerant}
 use Rattle.format.specs.Keys.{no-max}
 use Rattle.format.specs.Body.{either, read-header-body}
 use Rattle.format.specs.Auth.{zeros}
-use Rattle.format.specs.Lent.{pair-numbers, key-numbers, items, in-text, part-in, fields-to-write, table-checks, Writing, refusal-of, size-of, writing-header-body, output-after}
+use Rattle.format.specs.Lent.{pair-numbers, key-numbers, items, in-text, part-in, fields-to-write, table-checks, Writing, refusal-of, size-of, writing-header-body-under, writing-header-body, output-after}
 use Rattle.format.specs.WrittenBack.{again}
-use Rattle.cases.specs.Cases.{accepts, Case, body, writes, is, passes, body-numbers, H, H-fields, opened, laid-out}
+use Rattle.cases.specs.Cases.{Expected, accepts, Case, body, writes, is, passes, body-numbers, H, H-fields, opened, laid-out}
 
 -- H with another context section in the place of its own
 unfoldable pub H-with : List ℕ → List ℕ
@@ -47,6 +47,9 @@ V2 =
     ++ ((0x00 ∷ 0x01 ∷ 0x00 ∷ 0x01 ∷ 0x70 ∷ 0x00 ∷ 0x00 ∷ 0x00 ∷ 0x01 ∷ 0xAA ∷ [])
     ++ ((0x01 ∷ 0x00 ∷ 0x00 ∷ 0x00 ∷ 0x00 ∷ []) ++ bytes-from 0xC0)))
 
+abbrev pub V2-read : Expected
+V2-read = accepts 92 (2 ∷ 0 ∷ 0x0578 ∷ 0 ∷ 3 ∷ 32 ∷ 41 ∷ 1 ∷ 44 ∷ 1 ∷ 49 ∷ 1 ∷ 52 ∷ 0 ∷ 54 ∷ 1 ∷ 1 ∷ 0 ∷ 0 ∷ 60 ∷ 32 ∷ [])
+
 unfoldable pub V2-fields : Fields
 V2-fields =
     record {
@@ -68,7 +71,7 @@ headers =
     ∷ body (H-with (0x00 ∷ 0x02 ∷ 0x00 ∷ 0x00 ∷ [])) 0 (accepts 48 (1 ∷ 0x80 ∷ 0x0178 ∷ 1 ∷ 4 ∷ 16 ∷ 28 ∷ 2 ∷ 32 ∷ 1 ∷ 35 ∷ 3 ∷ 2 ∷ 12 ∷ 4096 ∷ 0 ∷ 0 ∷ []))
     ∷ writes today H-without-pairs (H-with (0x00 ∷ 0x00 ∷ []))
     ∷ writes old H-without-pairs (H-with (0x00 ∷ 0x02 ∷ 0x00 ∷ 0x00 ∷ []))
-    ∷ body V2 0 (accepts 92 (2 ∷ 0 ∷ 0x0578 ∷ 0 ∷ 3 ∷ 32 ∷ 41 ∷ 1 ∷ 44 ∷ 1 ∷ 49 ∷ 1 ∷ 52 ∷ 0 ∷ 54 ∷ 1 ∷ 1 ∷ 0 ∷ 0 ∷ 60 ∷ 32 ∷ []))
+    ∷ body V2 0 V2-read
     ∷ body (0xFF ∷ 0xFF ∷ V2 ++ (0xFF ∷ [])) 2 (accepts 94 (2 ∷ 0 ∷ 0x0578 ∷ 0 ∷ 5 ∷ 32 ∷ 43 ∷ 1 ∷ 46 ∷ 1 ∷ 51 ∷ 1 ∷ 54 ∷ 0 ∷ 56 ∷ 1 ∷ 1 ∷ 0 ∷ 0 ∷ 62 ∷ 32 ∷ []))
     ∷ writes today V2-fields V2
     ∷ []
@@ -118,5 +121,5 @@ refiled =
     ∷ []
 
 pub all-come-back : every comes-back refiled ≡ true
-unfolding opened laid-out refiled comes-back H H-with bytes-from V2 zeros again items in-text part-in fields-to-write table-checks refusal-of writing-header-body
+unfolding opened laid-out refiled comes-back H H-with bytes-from V2 zeros again items in-text part-in fields-to-write table-checks refusal-of writing-header-body-under
 all-come-back = refl

@@ -4,5 +4,6 @@ pub mod Headers
 pub mod Tags
 pub mod Frames
 pub mod Faults
+pub mod Policies
 pub mod Occurs
 pub mod Sourced

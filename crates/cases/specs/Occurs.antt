@@ -6,11 +6,12 @@ use Prim.Native.Nat.{ℕ}
 use Rattle.format.specs.Read.{Reader, refused, operation}
 use Rattle.format.specs.Context.{Mode, read-aad-section-into, find-value}
 use Rattle.format.specs.Keys.{Max, no-max, read-encrypted-data-keys-section-into}
-use Rattle.format.specs.Body.{Which, request, tests-frames, read-header-body}
+use Rattle.format.specs.Policies.{Policy}
+use Rattle.format.specs.Body.{Which, request-under, tests-frames, read-header-body-under}
 use Rattle.format.specs.Auth.{read-header-auth-tag}
 use Rattle.format.specs.Frames.{read-frames-into}
 use Rattle.format.specs.OnlyAuthenticated.{write-only-authenticated}
-use Rattle.format.specs.Lent.{BodyToWrite, size-of, writing-header-body, writing-frames}
+use Rattle.format.specs.Lent.{BodyToWrite, size-of, writing-header-body-under, writing-frames}
 use Rattle.format.specs.Refusals.{context-refusals, find-refusals, only-authenticated-refusals, keys-refusals, body-refusals, auth-refusals, frames-refusals}
 use Rattle.format.specs.Size.{size-refusals, frames-size-refusals}
 
@@ -21,9 +22,9 @@ pub record Answers {A : Type 0} (r : Reader A) (number : ℕ) : Type 0 where
   pub position : ℕ
   pub answers : operation r message start ≡ refused number position
 
--- what a body reader of that version and mode can answer; the maximum and the tables don't change the list
-abbrev pub listed-for : Which → Mode → List ℕ
-listed-for which mode = body-refusals (request which mode (tests-frames which) no-max 0 0)
+-- what a body reader of that version and mode can answer under the policy; the maximum and the tables don't change the list
+abbrev pub listed-for : Policy → Which → Mode → List ℕ
+listed-for policy which mode = body-refusals (request-under policy which mode (tests-frames which) no-max 0 0)
 
 pub record Occurs : Type 0 where
   pub of-context : (mode : Mode) (k : ℕ) → List·Memᴰ k (context-refusals mode) → (room : ℕ) × Answers (read-aad-section-into mode room) k
@@ -31,9 +32,9 @@ pub record Occurs : Type 0 where
   pub of-only-authenticated : (k : ℕ) → List·Memᴰ k only-authenticated-refusals
       → (text : List ℕ) × (required : List ℕ) × (room : ℕ) × Answers (write-only-authenticated text required room) k
   pub of-keys : (k : ℕ) → List·Memᴰ k keys-refusals → (max : Max) × (room : ℕ) × Answers (read-encrypted-data-keys-section-into max room) k
-  pub of-body : (which : Which) (mode : Mode) (k : ℕ) → List·Memᴰ k (listed-for which mode)
-      → (max : Max) × (pairRoom : ℕ) × (keyRoom : ℕ) × Answers (read-header-body which mode max pairRoom keyRoom) k
+  pub of-body : (policy : Policy) (which : Which) (mode : Mode) (k : ℕ) → List·Memᴰ k (listed-for policy which mode)
+      → (max : Max) × (pairRoom : ℕ) × (keyRoom : ℕ) × Answers (read-header-body-under policy which mode max pairRoom keyRoom) k
   pub of-auth : (k : ℕ) → List·Memᴰ k auth-refusals → (suite : ℕ) × Answers (read-header-auth-tag suite) k
   pub of-frames : (k : ℕ) → List·Memᴰ k frames-refusals → (frame : ℕ) × (room : ℕ) × Answers (read-frames-into frame room) k
-  pub of-size : (k : ℕ) → List·Memᴰ k size-refusals → (b : BodyToWrite) × (size-of (writing-header-body b) ≡ refused k 0)
+  pub of-size : (policy : Policy) (k : ℕ) → List·Memᴰ k (size-refusals policy) → (b : BodyToWrite) × (size-of (writing-header-body-under policy b) ≡ refused k 0)
   pub of-frames-size : (k : ℕ) → List·Memᴰ k frames-size-refusals → (frame : ℕ) × (text : List ℕ) × (table : List ℕ) × (size-of (writing-frames frame text table) ≡ refused k 0)

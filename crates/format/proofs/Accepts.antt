@@ -11,15 +11,16 @@ use Rattle.format.specs.Serialize.{images, every, sum}
 use Rattle.format.specs.Shared.{SuiteRow, suites, version-in, known, frame-fits}
 use Rattle.format.specs.Fields.{Form, Pair, EncryptedDataKey, Fields, pair-parts, key-parts}
 use Rattle.format.specs.Context.{pair-length, linear-length, pairs-limit}
-use Rattle.format.specs.Body.{either, Request}
-use Rattle.format.specs.Checks.{Check, check, first, each, has-uint16-len, count-checks, pair-checks, key-checks, pairs-checks, keys-checks, opening-checks, closing-checks, fits-form, form-checks, body-checks, Accepts}
+use Rattle.format.specs.Policies.{Policy, no-policy}
+use Rattle.format.specs.Body.{Which, either, Lead, Request}
+use Rattle.format.specs.Checks.{Check, check, first, each, has-uint16-len, count-checks, pair-checks, key-checks, pairs-checks, keys-checks, opening-checks, closing-checks, fits-form, form-checks, body-checks-under, body-checks, Accepts}
 use Rattle.format.specs.Pinned.{check-number}
 use Rattle.format.proofs.Tests.{leb-is, is-leb, eqb-is, is-eqb}
 use Rattle.format.proofs.Exact.{Oks}
 use Rattle.format.proofs.Serialize.{Short}
 use Rattle.format.proofs.Context.{PairOk, NextOk, room-all, linear-length-snoc}
 use Rattle.format.proofs.Keys.{KeyOk, KeyListOk}
-use Rattle.format.proofs.Ends.{SuiteOk, TopOk, RestOk, EndOk, version-is}
+use Rattle.format.proofs.Ends.{SuiteOk, LeadOk, TopOk, EndOk, version-is}
 use Rattle.format.proofs.Body.{Sent, BodyOk, top-of, end-of}
 use Rattle.format.proofs.Firsts.{Holds, holds, unheld, split, join, both, and}
 
@@ -122,9 +123,13 @@ then-keys ks o =
     let k = keys-pass [] ks (o .each) in
     (leb-is (length ks) 65535 (omega arith), (k .0, (o .some, k .1)))
 
+-- 39 stands right after 7
+pub policy-after-7 : (policy : Policy) (version messageType suite id : ℕ) → map check-number (opening-checks policy version messageType suite id) ≡ (3 ∷ 5 ∷ 6 ∷ 7 ∷ 39 ∷ 24 ∷ [])
+policy-after-7 policy version messageType suite id = refl
+
 -- what fields are that our writer accepts, given the mark
 pub record Good (form : Form) (f : Fields) : Type 0 where
-  pub top : TopOk either (top-of f)
+  pub top : TopOk either no-policy (top-of f)
   pub few-pairs : length (f .pairs) < 65536
   pub pairs : Oks NextOk [] (f .pairs)
   pub t33 : fits-form form (length (f .pairs)) ≡ true
@@ -133,13 +138,13 @@ pub record Good (form : Form) (f : Fields) : Type 0 where
   pub t20 : frame-fits (f .contentType) (f .frameLength) ≡ true
 
 abbrev opens : Fields → List Check
-opens f = opening-checks (f .version) (f .messageType) (f .suite) (length (f .messageId))
+opens f = opening-checks no-policy (f .version) (f .messageType) (f .suite) (length (f .messageId))
 
 abbrev closes : Fields → List Check
 closes f = closing-checks (f .version) (f .contentType) (f .headerIvLength) (length (f .suiteData)) (f .frameLength)
 
 pub good : (form : Form) (f : Fields) → Accepts form f → Good form f
-unfolding body-checks
+unfolding body-checks-under
 good form f a =
     let (t, r) = split (opens f) (pairs-checks (f .pairs) ++ (form-checks form (length (f .pairs)) ++ (keys-checks (f .keys) ++ closes f))) (holds (body-checks [] [] form f) (a .none-applies)) in
     let (hp, (h33, r′)) = split (pairs-checks (f .pairs)) (form-checks form (length (f .pairs)) ++ (keys-checks (f .keys) ++ closes f)) r in
@@ -147,13 +152,14 @@ good form f a =
     let p = pairs-then (f .pairs) hp in
     record {
       top = record {
-        t3 = t .0;
-        t4 = refl;
-        rest = record {
+        lead = record {
+          t3 = t .0;
+          t4 = refl;
           t5 = is-eqb _ _ (t .1 .0);
           suite = record { wide = known-narrow (f .suite) (t .1 .1 .0); t6 = t .1 .1 .0; t7 = rw (version-is (f .version) (t .0)) (t .1 .1 .1 .0) };
-          sized = is-eqb _ _ (t .1 .1 .1 .1 .0);
         };
+        t39 = t .1 .1 .1 .1 .0;
+        sized = is-eqb _ _ (t .1 .1 .1 .1 .1 .0);
       };
       few-pairs = p .0;
       pairs = p .1;
@@ -164,13 +170,13 @@ good form f a =
     }
 
 pub accepts : (form : Form) (f : Fields) → Good form f → Accepts form f
-unfolding body-checks
+unfolding body-checks-under
 accepts form f g =
-    let r = g .top .rest in
+    let l = g .top .lead in
     record {
       none-applies = unheld (body-checks [] [] form f)
           (join (opens f) (pairs-checks (f .pairs) ++ (form-checks form (length (f .pairs)) ++ (keys-checks (f .keys) ++ closes f)))
-          (g .top .t3, (eqb-is _ _ (r .t5), (r .suite .t6, (rw (version-is (f .version) (g .top .t3)) at (r .suite .t7), (eqb-is _ _ (r .sized), tt)))))
+          (l .t3, (eqb-is _ _ (l .t5), (l .suite .t6, (rw (version-is (f .version) (l .t3)) at (l .suite .t7), (g .top .t39, (eqb-is _ _ (g .top .sized), tt))))))
           (join (pairs-checks (f .pairs)) (form-checks form (length (f .pairs)) ++ (keys-checks (f .keys) ++ closes f)) (then-pairs (f .pairs) (g .few-pairs) (g .pairs)) (
             g .t33,
             join (keys-checks (f .keys)) (closes f) (then-keys (f .keys) (g .keys))
@@ -179,11 +185,15 @@ accepts form f g =
       frame-is-32-bits = g .end .wide;
     }
 
+-- what one version's reader takes, the either-version reader does
+any : {which : Which} {l : Lead} → LeadOk which l → LeadOk either l
+any o = record { t3 = o .t3; t4 = refl; t5 = o .t5; suite = o .suite }
+
 -- a value of a reader that tests 20 is one of a writer
 pub body-good : (q : Request) → q .frames ≡ true → (x : Sent) → BodyOk q x → Good (x .form) (x .fields)
 body-good q tests x o =
     record {
-      top = record { t3 = o .top .t3; t4 = refl; rest = o .top .rest };
+      top = record { lead = any (o .top .lead); t39 = refl; sized = o .top .sized };
       few-pairs = o .context .section .few;
       pairs = o .context .section .each;
       t33 = o .context .fits;

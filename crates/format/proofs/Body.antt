@@ -51,7 +51,7 @@ joined h c ks e =
     }
 
 pub record BodyOk (q : Request) (x : Sent) : Type 0 where
-  pub top : TopOk (q .which) (top-of (x .fields))
+  pub top : TopOk (q .which) (q .policy) (top-of (x .fields))
   pub context : MarkedOk (q .mode) (context-of x)
   pub keys : KeysOk (q .max) (x .fields .keys)
   pub end : EndOk (eqb (x .fields .version) 1) (end-of (x .fields))
@@ -76,7 +76,7 @@ pub body-exact : (q : Request) → Exact (read-body q) (BodyOk q) sent-bytes bod
 unfolding read-body after-opening after-context after-keys image
 body-exact q =
     revalue (BodyOk q) sent-bytes body-at
-    (seq-exact _ (opening-exact (q .which)) λ r h. seq-exact _ (marked-exact (q .mode)) λ s c. seq-exact _ (keys-exact (q .max)) λ t ks. seq-exact _ (closing-exact (eqb (h .version) 1)) λ u e.
+    (seq-exact _ (opening-exact (q .which) (q .policy)) λ r h. seq-exact _ (marked-exact (q .mode)) λ s c. seq-exact _ (keys-exact (q .max)) λ t ks. seq-exact _ (closing-exact (eqb (h .version) 1)) λ u e.
     check-exact 20 _ (check-as 22 (leb (4 * length (c .pairs)) (q .pairRoom)) (rw (length-puts write-aad-pair pair-at) refl)
     (check-as 23 (leb (6 * length ks) (q .keyRoom)) (rw (length-puts write-encrypted-data-key key-at) refl) (give-exact _))))
     (λ w o. (joined (w .0) (w .1 .0) (w .1 .1 .0) (w .1 .1 .1 .0), search, rw append-nil refl, λ s. refl))

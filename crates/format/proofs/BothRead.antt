@@ -17,7 +17,7 @@ use Rattle.format.specs.Source.{source-read-aad-section, source-read-aad
 use Rattle.format.proofs.Section.{Alike, of-alike}
 use Rattle.format.proofs.Members.{has}
 use Rattle.format.proofs.ListedLaws.{Listed, not-listed}
-use Rattle.format.proofs.Listed.{closing-without}
+use Rattle.format.proofs.ListedEnds.{closing-without}
 use Rattle.format.proofs.WantedLaws.{Near, Header, uint16-wants}
 use Rattle.format.proofs.Wanted.{opening-wants, section-wants, marked-wants}
 use Rattle.format.proofs.SourceListed.{keys-into-listed, after-context-listed}
@@ -122,4 +122,4 @@ after-context-both q o x = keys-both (q .max) _ (after-context-listed q o x) (cl
 
 pub body-both : (q : Request) → BothReadKeys (read-body q) (source-read-body q)
 unfolding read-body source-read-body after-opening source-after-opening
-body-both q = both-differ (opening-wants (q .which)) (record { alike = λ l s hb. inl refl }) (λ o. both-differ (marked-wants (section-wants (q .mode))) (marked-both (section-both (q .mode))) (after-context-both q o))
+body-both q = both-differ (opening-wants (q .which) (q .policy)) (record { alike = λ l s hb. inl refl }) (λ o. both-differ (marked-wants (section-wants (q .mode))) (marked-both (section-both (q .mode))) (after-context-both q o))

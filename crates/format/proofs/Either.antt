@@ -10,7 +10,8 @@ use Rattle.format.specs.Serialize.{Bytes}
 use Rattle.format.specs.Fields.{Form, today, old, Pair, Fields, HeaderBody, fields-of}
 use Rattle.format.specs.Context.{tolerant}
 use Rattle.format.specs.Keys.{Max}
-use Rattle.format.specs.Body.{Request, either, request, read-body, read-header-body, image}
+use Rattle.format.specs.Policies.{Policy, no-policy, lets-read}
+use Rattle.format.specs.Body.{Request, either, request-under, request, read-body, read-header-body-under, read-header-body, image}
 use Rattle.format.specs.First.{FirstApplies, operation-list, FirstRefusal, body-list}
 use Rattle.format.specs.Places.{body-here, body-end}
 use Rattle.format.specs.Demand3.{Writer, todays, the-old, mark-by, image-by, Stands, Gives, Sentence1}
@@ -35,16 +36,16 @@ its-mark today ps e = refl
 its-mark old [] e = refl
 its-mark old (p ∷ ps) e = old-has-none p ps e
 
-module _ (max : Max) (pairRoom keyRoom : ℕ) (m : List ℕ) (s : ℕ) where
+module _ (policy : Policy) (max : Max) (pairRoom keyRoom : ℕ) (m : List ℕ) (s : ℕ) where
   abbrev q : Request
-  q = request either tolerant true max pairRoom keyRoom
+  q = request-under policy either tolerant true max pairRoom keyRoom
 
   abbrev said : Answer HeaderBody
-  said = operation (read-header-body either tolerant max pairRoom keyRoom) m s
+  said = operation (read-header-body-under policy either tolerant max pairRoom keyRoom) m s
 
-  only : Bytes m → (b : HeaderBody) (t : ℕ) → said ≡ accepted b t
-      → (w : Writer) × (f : Fields) × Stands max pairRoom keyRoom m s w f × Gives m b f × (b .form ≡ mark-by w (f .pairs)) × (t ≡ s + length (image-by w f))
-  unfolding read-header-body
+  pub only : Bytes m → (b : HeaderBody) (t : ℕ) → said ≡ accepted b t
+      → (w : Writer) × (f : Fields) × Stands max pairRoom keyRoom m s w f × (lets-read policy (f .version) ≡ true) × Gives m b f × (b .form ≡ mark-by w (f .pairs)) × (t ≡ s + length (image-by w f))
+  unfolding read-header-body-under
   only hb b t e =
       let (l, x) = accepted-took (body-exact q) m s hb b t e in
       let v : Sent = x .value in
@@ -60,6 +61,7 @@ module _ (max : Max) (pairRoom keyRoom : ℕ) (m : List ℕ) (s : ℕ) where
           keys-held = is-leb _ _ (g .t23);
           max-not-passed = g .keys .below;
         },
+        g .top .t39,
         record { fields = ap fields-of (x .placed) ∙ fields-at s v; placed = rw (x .placed) (body-held m q s v g (record { after = l; is = x .split })) },
         ap (λ (y : HeaderBody). y .form) (x .placed) ∙ sym k,
         rw k (x .tail),
@@ -72,16 +74,16 @@ module _ (max : Max) (pairRoom keyRoom : ℕ) (m : List ℕ) (s : ℕ) where
       let b = some-bytes x in
       omega arith
 
-  pub all : length m ≤ 4294967295 → (w : Writer) (f : Fields) → Stands max pairRoom keyRoom m s w f
+  pub all : length m ≤ 4294967295 → (w : Writer) (f : Fields) → Stands max pairRoom keyRoom m s w f → lets-read policy (f .version) ≡ true
       → (b : HeaderBody) × (said ≡ accepted b (s + length (image-by w f))) × Gives m b f × (b .form ≡ mark-by w (f .pairs))
-  unfolding read-header-body
-  all fits w f h =
+  unfolding read-header-body-under
+  all fits w f h lets =
       let form = mark-by w (f .pairs) in
       let x : Sent = record { form = form; fields = f } in
       let g : Good form f = good form f (h .accepts) in
       let ok : BodyOk q x =
       record {
-        top = g .top;
+        top = record { lead = g .top .lead; t39 = lets; sized = g .top .sized };
         context = record { section = record { allowed = tt; few = g .few-pairs; each = g .pairs }; fits = g .t33 };
         keys = record { list = g .keys; below = h .max-not-passed };
         end = g .end;
@@ -96,23 +98,30 @@ module _ (max : Max) (pairRoom keyRoom : ℕ) (m : List ℕ) (s : ℕ) where
         refl,
       )
 
-  listed : FirstRefusal (read-header-body either tolerant max pairRoom keyRoom) (body-list q) body-here body-end m s
-  unfolding read-header-body
-  listed = first-refusals .of-body q m s
+module _ (max : Max) (pairRoom keyRoom : ℕ) (m : List ℕ) (s : ℕ) where
+  abbrev asked : Request
+  asked = request either tolerant true max pairRoom keyRoom
+
+  abbrev answered : Answer HeaderBody
+  answered = operation (read-header-body either tolerant max pairRoom keyRoom) m s
+
+  listed : FirstRefusal (read-header-body either tolerant max pairRoom keyRoom) (body-list asked) body-here body-end m s
+  unfolding read-header-body-under
+  listed = first-refusals .of-body asked m s
 
   otherwise : Bytes m → ((w : Writer) (f : Fields) → Stands max pairRoom keyRoom m s w f → ⊥)
-      → (k : ℕ) × (p : ℕ) × (said ≡ refused k p) × FirstApplies (operation-list (body-list q) m s) k p
-  otherwise hb none = go said refl
+      → (k : ℕ) × (p : ℕ) × (answered ≡ refused k p) × FirstApplies (operation-list (body-list asked) m s) k p
+  otherwise hb none = go answered refl
     where
-      go : (a : Answer HeaderBody) → said ≡ a → (k : ℕ) × (p : ℕ) × (said ≡ refused k p) × FirstApplies (operation-list (body-list q) m s) k p
-      go (accepted b t) e = let z = only hb b t e in absurd (none (z .0) (z .1) (z .2))
+      go : (a : Answer HeaderBody) → answered ≡ a → (k : ℕ) × (p : ℕ) × (answered ≡ refused k p) × FirstApplies (operation-list (body-list asked) m s) k p
+      go (accepted b t) e = let z = only no-policy max pairRoom keyRoom m s hb b t e in absurd (none (z .0) (z .1) (z .2))
       go (refused k p) e = (k, p, e, listed .refuses k p e)
 
   pub sentence-1 : Bytes m → Sentence1 max pairRoom keyRoom m s
   sentence-1 hb =
       record {
-        only = λ fits b t e. only hb b t e;
-        all = all;
+        only = λ fits b t e. (let (w, f, stands, lets, gives, form, tail) = only no-policy max pairRoom keyRoom m s hb b t e in (w, f, stands, gives, form, tail));
+        all = λ fits w f h. all no-policy max pairRoom keyRoom m s fits w f h refl;
         otherwise = λ fits none. otherwise hb none;
         listed = listed;
         longer = λ h. operation-long (read-header-body either tolerant max pairRoom keyRoom) m s h;

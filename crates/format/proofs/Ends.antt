@@ -10,7 +10,8 @@ use lib.ListN.{length}
 use Rattle.format.specs.Read.{_>>=_, _>>_, return, test}
 use Rattle.format.specs.Serialize.{Part, write-uint16, write-uint32}
 use Rattle.format.specs.Shared.{one-or-two, known, of-version, id-length, iv-length, commit-key-length, read-message-format-version, read-esdk-suite-id, read-content-type}
-use Rattle.format.specs.Body.{Which, asked, Opening, read-opening-of, read-opening, Closing, read-closing-of, read-closing, write-opening-of, write-closing-of}
+use Rattle.format.specs.Policies.{Policy, lets-read}
+use Rattle.format.specs.Body.{Which, asked, Lead, read-lead-of, read-lead, Opening, after-lead, read-opening, Closing, read-closing-of, read-closing, write-opening-of, write-closing-of}
 use Rattle.format.proofs.Tests.{is-eqb, eqb-is}
 use Rattle.format.proofs.Exact.{Exact, seq-exact, check-exact, give-exact, revalue}
 use Rattle.format.proofs.Serialize.{read-exact, part-at, itself, uint8-exact, uint16-exact, uint32-exact, length-uint16, length-uint32}
@@ -64,37 +65,51 @@ suite-exact version =
     (λ suite o. ((suite, tt), search, sym (append-nil _), λ s. refl))
 
 -- after the version byte; true: version 1
-pub record Rest : Type 0 where
-  pub messageType : ℕ
-  pub suite : ℕ
-  pub messageId : List ℕ
+pub record RestOk (v1 : Bool) (l : Lead) : Type 0 where
+  pub version : l .version ≡ cond v1 1 2
+  pub t5 : l .messageType ≡ cond v1 0x80 0
+  pub suite : SuiteOk (cond v1 1 2) (l .suite)
 
-pub record RestOk (v1 : Bool) (r : Rest) : Type 0 where
-  pub t5 : r .messageType ≡ cond v1 0x80 0
-  pub suite : SuiteOk (cond v1 1 2) (r .suite)
-  pub sized : length (r .messageId) ≡ cond v1 (id-length 1) (id-length 2)
+abbrev rest-bytes : Bool → Lead → List ℕ
+rest-bytes v1 l = cond v1 (l .messageType ∷ []) [] ++ write-uint16 (l .suite)
 
-abbrev rest-bytes : Bool → Rest → List ℕ
-rest-bytes v1 r = write-opening-of v1 (r .messageType) (r .suite) (r .messageId)
+-- they have no places
+abbrev as-is : ℕ → Lead → Lead
+as-is s l = l
 
-abbrev rest-at : Bool → ℕ → Rest → Opening
-rest-at v1 s r = record { version = cond v1 1 2; messageType = r .messageType; suite = r .suite; messageId = part-at (s + cond v1 3 2) (r .messageId) }
-
-rest-exact : (v1 : Bool) → Exact (read-opening-of v1) (RestOk v1) (rest-bytes v1) (rest-at v1)
-unfolding read-opening-of write-opening-of
+rest-exact : (v1 : Bool) → Exact (read-lead-of v1) (RestOk v1) (rest-bytes v1) as-is
+unfolding read-lead-of
 rest-exact true =
-    revalue (RestOk true) (rest-bytes true) (rest-at true)
-    (seq-exact _ uint8-exact λ s type. check-exact 5 _ (seq-exact _ (suite-exact 1) λ s suite. seq-exact _ (read-exact (id-length 1)) λ s id. give-exact _))
-    (λ w o.
-    (record { messageType = w .0; suite = w .1 .0; messageId = w .1 .1 .0 }, record { t5 = is-eqb _ _ (o .1 .0); suite = o .1 .1 .0; sized = o .1 .1 .1 .0 }, simp append-nil, λ s. rw (length-uint16, add-assoc s 1 2) refl))
-    (λ r o.
-    let e : r .messageType ≡ 0x80 = o .t5 in
-    ((r .messageType, (r .suite, (r .messageId, tt))), (omega arith, (eqb-is _ _ e, (o .suite, (o .sized, tt)))), simp append-nil, λ s. rw (length-uint16, add-assoc s 1 2) refl))
+    revalue (RestOk true) (rest-bytes true) as-is
+    (seq-exact _ uint8-exact λ s type. check-exact 5 _ (seq-exact _ (suite-exact 1) λ s suite. give-exact _))
+    (λ w o. (record { version = 1; messageType = w .0; suite = w .1 .0 }, record { version = refl; t5 = is-eqb _ _ (o .1 .0); suite = o .1 .1 .0 }, simp append-nil, λ s. refl))
+    (λ l o. let e : l .messageType ≡ 0x80 = o .t5 in
+    ((l .messageType, (l .suite, tt)), (omega arith, (eqb-is _ _ e, (o .suite, tt))), simp append-nil, λ s. rw (o .version) refl))
 rest-exact false =
-    revalue (RestOk false) (rest-bytes false) (rest-at false)
-    (seq-exact _ (suite-exact 2) λ s suite. seq-exact _ (read-exact (id-length 2)) λ s id. give-exact _)
-    (λ w o. (record { messageType = 0; suite = w .0; messageId = w .1 .0 }, record { t5 = refl; suite = o .0; sized = o .1 .0 }, simp append-nil, λ s. rw length-uint16 refl))
-    (λ r o. ((r .suite, (r .messageId, tt)), (o .suite, (o .sized, tt)), simp append-nil, λ s. rw (length-uint16, o .t5) refl))
+    revalue (RestOk false) (rest-bytes false) as-is
+    (seq-exact _ (suite-exact 2) λ s suite. give-exact _)
+    (λ w o. (record { version = 2; messageType = 0; suite = w .0 }, record { version = refl; t5 = refl; suite = o .0 }, simp append-nil, λ s. refl))
+    (λ l o. ((l .suite, tt), (o .suite, tt), simp append-nil, λ s. rw (o .version, o .t5) refl))
+
+-- up to 7
+pub record LeadOk (which : Which) (l : Lead) : Type 0 where
+  pub t3 : one-or-two (l .version) ≡ true
+  pub t4 : asked which (l .version) ≡ true
+  pub t5 : l .messageType ≡ cond (eqb (l .version) 1) 0x80 0
+  pub suite : SuiteOk (cond (eqb (l .version) 1) 1 2) (l .suite)
+
+abbrev lead-bytes : Lead → List ℕ
+lead-bytes l = (l .version ∷ []) ++ rest-bytes (eqb (l .version) 1) l
+
+lead-exact : (which : Which) → Exact (read-lead which) (LeadOk which) lead-bytes as-is
+unfolding read-lead
+lead-exact which =
+    revalue (LeadOk which) lead-bytes as-is
+    (seq-exact _ version-exact λ s v. check-exact 4 _ (rest-exact (eqb v 1)))
+    (λ w o.
+    let e : w .1 .version ≡ w .0 = o .1 .1 .version ∙ version-is (w .0) (o .0) in
+    (w .1, rw e (record { t3 = o .0; t4 = o .1 .0; t5 = o .1 .1 .t5; suite = o .1 .1 .suite }), rw e refl, λ s. refl))
+    (λ l o. ((l .version, l), (o .t3, (o .t4, record { version = sym (version-is (l .version) (o .t3)); t5 = o .t5; suite = o .suite })), refl, λ s. refl))
 
 -- up to the context section
 pub record Top : Type 0 where
@@ -103,16 +118,16 @@ pub record Top : Type 0 where
   pub suite : ℕ
   pub messageId : List ℕ
 
-abbrev rest-of : Top → Rest
-rest-of h = record { messageType = h .messageType; suite = h .suite; messageId = h .messageId }
+abbrev lead-of : Top → Lead
+lead-of h = record { version = h .version; messageType = h .messageType; suite = h .suite }
 
 abbrev pub v1-of : Top → Bool
 v1-of h = eqb (h .version) 1
 
-pub record TopOk (which : Which) (h : Top) : Type 0 where
-  pub t3 : one-or-two (h .version) ≡ true
-  pub t4 : asked which (h .version) ≡ true
-  pub rest : RestOk (v1-of h) (rest-of h)
+pub record TopOk (which : Which) (policy : Policy) (h : Top) : Type 0 where
+  pub lead : LeadOk which (lead-of h)
+  pub t39 : lets-read policy (h .version) ≡ true
+  pub sized : length (h .messageId) ≡ id-length (h .version)
 
 abbrev pub top-bytes : Top → List ℕ
 top-bytes h = (h .version ∷ []) ++ write-opening-of (v1-of h) (h .messageType) (h .suite) (h .messageId)
@@ -120,13 +135,43 @@ top-bytes h = (h .version ∷ []) ++ write-opening-of (v1-of h) (h .messageType)
 abbrev pub top-at : ℕ → Top → Opening
 top-at s h = record { version = h .version; messageType = h .messageType; suite = h .suite; messageId = part-at (s + 1 + cond (v1-of h) 3 2) (h .messageId) }
 
-pub opening-exact : (which : Which) → Exact (read-opening which) (TopOk which) top-bytes top-at
-unfolding read-opening
-opening-exact which =
-    revalue (TopOk which) top-bytes top-at
-    (seq-exact _ version-exact λ s v. check-exact 4 _ (rest-exact (eqb v 1)))
-    (λ w o. (record { version = w .0; messageType = w .1 .messageType; suite = w .1 .suite; messageId = w .1 .messageId }, record { t3 = o .0; t4 = o .1 .0; rest = o .1 .1 }, refl, λ s. rw (version-is (w .0) (o .0)) refl))
-    (λ h o. ((h .version, rest-of h), (o .t3, (o .t4, o .rest)), refl, λ s. rw (version-is (h .version) (o .t3)) refl))
+-- how long it is
+pub top-long : (v1 : Bool) (version messageType suite : ℕ) (id : List ℕ) → length id ≡ cond v1 16 32 → length ((version ∷ []) ++ write-opening-of v1 messageType suite id) ≡ cond v1 20 35
+unfolding write-opening-of write-uint16
+top-long true version messageType suite id e = omega arith
+top-long false version messageType suite id e = omega arith
+
+-- the ID stands behind the leading fields
+led : (v1 : Bool) (l : Lead) (id : List ℕ) → rest-bytes v1 l ++ id ≡ write-opening-of v1 (l .messageType) (l .suite) id
+unfolding write-opening-of
+led true l id = refl
+led false l id = refl
+
+rest-long : (v1 : Bool) (l : Lead) → length (rest-bytes v1 l) ≡ cond v1 3 2
+rest-long true l = rw length-uint16 refl
+rest-long false l = rw length-uint16 refl
+
+id-at : (s : ℕ) (l : Lead) → s + length (lead-bytes l) ≡ s + 1 + cond (eqb (l .version) 1) 3 2
+id-at s l = let e = rest-long (eqb (l .version) 1) l in omega arith
+
+pub opening-exact : (which : Which) (policy : Policy) → Exact (read-opening which policy) (TopOk which policy) top-bytes top-at
+unfolding read-opening after-lead
+opening-exact which policy =
+    revalue (TopOk which policy) top-bytes top-at
+    (seq-exact _ (lead-exact which) λ s l. check-exact 39 _ (seq-exact _ (read-exact (id-length (l .version))) λ s id. give-exact _))
+    (λ w o.
+    let l : Lead = w .0 in (
+      record { version = l .version; messageType = l .messageType; suite = l .suite; messageId = w .1 .0 },
+      record { lead = o .0; t39 = o .1 .0; sized = o .1 .1 .0 },
+      rw (append-nil, ← led (eqb (l .version) 1) l (w .1 .0)) refl,
+      λ s. rw (id-at s l) refl,
+    ))
+    (λ h o. (
+      (lead-of h, (h .messageId, tt)),
+      (o .lead, (o .t39, (o .sized, tt))),
+      rw (append-nil, ← led (v1-of h) (lead-of h) (h .messageId)) refl,
+      λ s. rw (id-at s (lead-of h)) refl,
+    ))
 
 -- behind the key section
 pub record End : Type 0 where

@@ -10,44 +10,99 @@ use lib.Dec.{leb, eqb}
 use lib.ListN.{length, drop}
 use Rattle.format.specs.Read.{ReadResult, success, error, Reader, _>>=_, _>>_, return, test, Answer, accepted, refused, answer, at, addressable, operation}
 use Rattle.format.specs.Serialize.{Part, read, same-bytes}
-use Rattle.format.specs.Shared.{by, one-or-two, known, of-version, read-message-format-version, read-esdk-suite-id, read-content-type, suite-version, frame-fits}
+use Rattle.format.specs.Shared.{by, one-or-two, known, of-version, id-length, read-message-format-version, read-esdk-suite-id, read-content-type, suite-version, frame-fits}
 use Rattle.format.specs.Fields.{PairAt, EncryptedDataKeyAt, HeaderBody, pair-of}
 use Rattle.format.specs.Context.{Mode, tolerant, seen, look-up, find-value}
 use Rattle.format.specs.OnlyAuthenticated.{only-authenticated, fitting, write-only-authenticated}
-use Rattle.format.specs.Body.{Which, Opening, read-opening-of, read-opening, Closing, read-closing-of, read-closing, whole, Request, after-keys, after-context, after-opening, read-body}
+use Rattle.format.specs.Policies.{Policy, lets-read}
+use Rattle.format.specs.Body.{Which, Lead, read-lead-of, read-lead, Opening, after-lead, read-opening, Closing, read-closing-of, read-closing, whole, Request, after-keys, after-context, after-opening, read-body}
 use Rattle.format.specs.Auth.{HeaderAuth, zeros, read-header-auth-tag-of, read-header-auth-tag}
 use Rattle.format.specs.Places.{number8, number16, number32, part-of, entry-end, section-pairs, section-keys, section-keys-end, opening-here, closing-here, closing-end, body-here, body-end, value-of, value-here, auth-of-here, auth-here, auth-end}
-use Rattle.format.specs.First.{Line, lacks, when, unless, NoneApplies, FirstApplies, operation-list, opening-list-of, opening-list, closing-list-of, closing-list, frame-length-here, body-list, auth-list, find-list, only-authenticated-list, FirstRefusal, FirstRefusals}
-use Rattle.format.proofs.Lines.{first-line, none-applies, applies-none, first-applies, applies-first, Goes, goes-as, return-goes, bind-goes, test-goes, read-goes}
+use Rattle.format.specs.First.{Line, lacks, when, unless, NoneApplies, FirstApplies, operation-list, lead-list-of, lead-list, opening-list, closing-list-of, closing-list, frame-length-here, body-list, auth-list, find-list, only-authenticated-list, FirstRefusal, FirstRefusals}
+use Rattle.format.specs.Pinned.{line-number}
+use Rattle.format.proofs.Lines.{first-line, one-none, behind-list, none-applies, applies-none, first-applies, applies-first, Goes, goes-as, return-goes, bind-goes, test-goes, read-goes}
 use Rattle.format.proofs.Messages.{refused-is-no-accepted}
 use Rattle.format.proofs.First.{uint8-goes, uint16-goes, uint32-goes, context-goes, marked-goes, context-into-goes, keys-goes, keys-into-goes}
+use Rattle.format.proofs.Ends.{version-is}
 use Rattle.format.proofs.Frames.{frames-into-goes}
 
--- where the context section starts, of what follows the version byte at s; true: version 1
-unfoldable opening-end : Bool → ℕ → ℕ
-opening-end true s = s + 1 + 2 + 16
-opening-end false s = s + 2 + 32
+-- the leading fields behind the version byte at s, and where the ID starts; true: version 1
+unfoldable pub lead-here : Bool → List ℕ → ℕ → Lead
+lead-here true m s = record { version = 1; messageType = number8 m s; suite = number16 m (s + 1) }
+lead-here false m s = record { version = 2; messageType = 0; suite = number16 m s }
+
+unfoldable pub id-start : Bool → ℕ → ℕ
+id-start true s = s + 1 + 2
+id-start false s = s + 2
 
 suite-goes : (version : ℕ) → Goes (read-esdk-suite-id version) (λ m s. lacks 2 m s ∷ unless 6 (known (number16 m s)) ∷ unless 7 (of-version version (number16 m s)) ∷ []) number16 (λ m s. s + 2)
 unfolding read-esdk-suite-id
 suite-goes version = bind-goes uint16-goes (λ x. test-goes _ _ (test-goes _ _ (return-goes x)))
 
-opening-of-goes : (b : Bool) → Goes (read-opening-of b) (opening-list-of b) (opening-here b) (λ m s. opening-end b s)
-unfolding read-opening-of opening-list-of opening-here opening-end
-opening-of-goes true = bind-goes uint8-goes (λ t. test-goes _ _ (bind-goes (suite-goes 1) (λ x. bind-goes (read-goes 16) (λ id. return-goes _))))
-opening-of-goes false = bind-goes (suite-goes 2) (λ x. bind-goes (read-goes 32) (λ id. return-goes _))
+lead-of-goes : (b : Bool) → Goes (read-lead-of b) (lead-list-of b) (lead-here b) (λ m s. id-start b s)
+unfolding read-lead-of lead-list-of lead-here id-start
+lead-of-goes true = bind-goes uint8-goes (λ t. test-goes _ _ (bind-goes (suite-goes 1) (λ x. return-goes _)))
+lead-of-goes false = bind-goes (suite-goes 2) (λ x. return-goes _)
 
 version-goes : Goes read-message-format-version (λ m s. lacks 1 m s ∷ unless 3 (one-or-two (number8 m s)) ∷ []) number8 (λ m s. s + 1)
 unfolding read-message-format-version
 version-goes = bind-goes uint8-goes (λ v. test-goes _ _ (return-goes v))
 
-pub opening-goes : (which : Which) → Goes (read-opening which) (opening-list which) (λ m s. opening-here (eqb (number8 m s) 1) m (s + 1)) (λ m s. s + by (number8 m s) 20 35)
-unfolding read-opening opening-list opening-end
-opening-goes which = goes-as (bind-goes version-goes (λ v. test-goes _ _ (opening-of-goes (eqb v 1)))) (λ m s. refl) (λ m s e. (refl, ends (eqb (number8 m s) 1) s))
+pub lead-goes : (which : Which) → Goes (read-lead which) (lead-list which) (λ m s. lead-here (eqb (number8 m s) 1) m (s + 1)) (λ m s. id-start (eqb (number8 m s) 1) (s + 1))
+unfolding read-lead lead-list
+lead-goes which = goes-as (bind-goes version-goes (λ v. test-goes _ _ (lead-of-goes (eqb v 1)))) (λ m s. refl) (λ m s e. (refl, refl))
+
+-- where no line up to 7 applies, the version is one of the two
+pub versioned : (which : Which) (m : List ℕ) (s : ℕ) → first-line (lead-list which m s) ≡ none → one-or-two (number8 m s) ≡ true
+unfolding lead-list
+versioned which m s e = passed (one-or-two (number8 m s)) (one-none _ _ (one-none _ _ e .1) .0)
   where
-    ends : (b : Bool) (s : ℕ) → opening-end b (s + 1) ≡ s + cond b 20 35
-    ends true s = omega arith
-    ends false s = omega arith
+    passed : (b : Bool) → not b ≡ false → b ≡ true
+    passed true e = refl
+    passed false e = sym e
+
+pub lead-version : (b : Bool) (m : List ℕ) (s : ℕ) → lead-here b m s .version ≡ cond b 1 2
+unfolding lead-here
+lead-version true m s = refl
+lead-version false m s = refl
+
+id-long : (b : Bool) → id-length (cond b 1 2) ≡ cond b 16 32
+id-long true = refl
+id-long false = refl
+
+-- 39 stands right after 7
+pub policy-after-7 : (v1 : Bool) (which : Which) (policy : Policy) (m : List ℕ) (s : ℕ) → eqb (number8 m s) 1 ≡ v1
+    → map line-number (opening-list which policy m s) ≡ cond v1 (2 ∷ 3 ∷ 4 ∷ 2 ∷ 5 ∷ 2 ∷ 6 ∷ 7 ∷ 39 ∷ 2 ∷ []) (2 ∷ 3 ∷ 4 ∷ 2 ∷ 6 ∷ 7 ∷ 39 ∷ 2 ∷ [])
+unfolding opening-list lead-list lead-list-of
+policy-after-7 true which policy m s e = rw e refl
+policy-after-7 false which policy m s e = rw e refl
+
+pub opening-goes : (which : Which) (policy : Policy) → Goes (read-opening which policy) (opening-list which policy)
+    (λ m s. opening-here (eqb (number8 m s) 1) m (s + 1)) (λ m s. s + by (number8 m s) 20 35)
+unfolding read-opening after-lead opening-list lead-here id-start opening-here
+opening-goes which policy =
+    goes-as (bind-goes (lead-goes which) (λ l. test-goes 39 (lets-read policy (l .version)) (bind-goes (read-goes (id-length (l .version))) (λ id. return-goes _))))
+    (λ m s. behind-list (lead-list which m s) _ _ (λ e. lines (number8 m s) m s (versioned which m s e)))
+    (λ m s e. (here (eqb (number8 m s) 1) m (s + 1), ends (eqb (number8 m s) 1) m s))
+  where
+    starts : (b : Bool) (s : ℕ) → s + cond b 4 3 ≡ id-start b (s + 1)
+    starts true s = omega arith
+    starts false s = omega arith
+
+    lines : (v : ℕ) (m : List ℕ) (s : ℕ) → one-or-two v ≡ true
+        → let l = lead-here (eqb v 1) m (s + 1) in
+        first-line (unless 39 (lets-read policy v) ∷ lacks (by v 16 32) m (s + by v 4 3) ∷ [])
+        ≡ first-line (unless 39 (lets-read policy (l .version)) ∷ lacks (id-length (l .version)) m (id-start (eqb v 1) (s + 1)) ∷ [])
+    lines v m s e = rw (lead-version (eqb v 1) m (s + 1), version-is v e, starts (eqb v 1) s) refl
+
+    here : (b : Bool) (m : List ℕ) (s : ℕ) → let l = lead-here b m s in
+        _≡_ {A = Opening} (record { version = l .version; messageType = l .messageType; suite = l .suite; messageId = part-of m (id-start b s) (id-length (l .version)) }) (opening-here b m s)
+    here true m s = refl
+    here false m s = refl
+
+    ends : (b : Bool) (m : List ℕ) (s : ℕ) → id-start b (s + 1) + id-length (lead-here b m (s + 1) .version) ≡ s + cond b 20 35
+    ends true m s = omega arith
+    ends false m s = omega arith
 
 content-goes : Goes read-content-type (λ m s. lacks 1 m s ∷ unless 17 (one-or-two (number8 m s)) ∷ []) number8 (λ m s. s + 1)
 unfolding read-content-type
@@ -80,7 +135,7 @@ module _ (q : Request) where
   unfolding read-body after-opening after-context after-keys body-list
   body-goes =
       goes-as
-      (bind-goes (opening-goes (q .which)) (λ o. bind-goes (marked-goes (q .mode)) (λ x. bind-goes (keys-goes (q .max)) (λ ks. bind-goes (closing-goes (eqb (o .version) 1)) (λ c.
+      (bind-goes (opening-goes (q .which) (q .policy)) (λ o. bind-goes (marked-goes (q .mode)) (λ x. bind-goes (keys-goes (q .max)) (λ ks. bind-goes (closing-goes (eqb (o .version) 1)) (λ c.
       test-goes _ _ (test-goes _ _ (test-goes _ _ (return-goes (whole o x ks c)))))))))
       (λ m s. rw (is-v1 (eqb (number8 m s) 1) m (s + 1), content-is, frame-is) refl)
       (λ m s e. (rw (is-v1 (eqb (number8 m s) 1) m (s + 1)) refl, rw (is-v1 (eqb (number8 m s) 1) m (s + 1)) refl))

@@ -15,7 +15,8 @@ use Rattle.format.specs.Fields.{Form, Pair, PairAt, pair-of, pair-parts,
 use Rattle.format.specs.Context.{seen, pair-length, linear-length, pairs-limit, Mode, read-aad-pair}
 use Rattle.format.specs.Source.{source-read-next-aad-pair}
 use Rattle.format.specs.Keys.{Max}
-use Rattle.format.specs.Body.{Which, Opening, read-opening, request, tests-frames, read-header-body}
+use Rattle.format.specs.Policies.{Policy}
+use Rattle.format.specs.Body.{Which, Opening, read-opening, request, tests-frames, read-header-body-under, read-header-body}
 use Rattle.format.specs.Auth.{HeaderAuth, read-header-auth-tag, write-header-auth-tag}
 use Rattle.format.specs.Checks.{Check, check, first, each, count-checks, pair-checks, pairs-checks, auth-checks, Accepts}
 use Rattle.format.specs.Demand3.{Has}
@@ -126,30 +127,30 @@ sized version type id iv suiteData e y i j d = go (eqb version 1) refl e y i j d
     go true q e y i j d = rw (is-eqb version 1 q, y, i, j, d) version-1
     go false q e y i j d = rw (is-eqb version 2 e, y, i, j, d) version-2
 
-opening-read : (which : Which) (m : List ℕ) (s : ℕ) → Bytes m → (o : Opening) (t : ℕ) → operation (read-opening which) m s ≡ accepted o t
+opening-read : (which : Which) (policy : Policy) (m : List ℕ) (s : ℕ) → Bytes m → (o : Opening) (t : ℕ) → operation (read-opening which policy) m s ≡ accepted o t
     → OpeningSized s (o .version) (length (o .messageId .bytes)) t
-opening-read which m s hb o t e =
-    let (l, x) = accepted-took (opening-exact which) m s hb o t e in
+opening-read which policy m s hb o t e =
+    let (l, x) = accepted-took (opening-exact which policy) m s hb o t e in
     let g = x .good in
     let v : o .version ≡ x .value .version = ap (λ z. z .version) (x .placed) in
     let i : length (o .messageId .bytes) ≡ length (x .value .messageId) = ap (λ z. length (z .messageId .bytes)) (x .placed) in
-    opening-sized s (o .version) (length (o .messageId .bytes)) t (rw v (g .t3)) (rw v (i ∙ g .rest .sized)) (reached which m s hb o t e)
+    opening-sized s (o .version) (length (o .messageId .bytes)) t (rw v (g .lead .t3)) (rw v (i ∙ g .sized)) (reached which policy m s hb o t e)
 
 body-read : (which : Which) (mode : Mode) (max : Max) (pairRoom keyRoom : ℕ) (m : List ℕ) (s : ℕ) → Bytes m → (b : HeaderBody) (t : ℕ)
     → operation (read-header-body which mode max pairRoom keyRoom) m s ≡ accepted b t
     → Sized (b .version) (b .messageType) (length (b .messageId .bytes)) (b .headerIvLength) (length (b .suiteData .bytes))
-unfolding read-header-body
+unfolding read-header-body-under
 body-read which mode max pairRoom keyRoom m s hb b t e =
     let q = request which mode (tests-frames which) max pairRoom keyRoom in
     let (l, x) = accepted-took (body-exact q) m s hb b t e in
     let f : Fields = x .value .fields in
     let g : BodyOk q (x .value) = x .good in
-    rw (x .placed) (sized (f .version) (f .messageType) (length (f .messageId)) (f .headerIvLength) (length (f .suiteData)) (g .top .t3) (g .top .rest .t5) (g .top .rest .sized) (g .end .t19) (g .end .sized))
+    rw (x .placed) (sized (f .version) (f .messageType) (length (f .messageId)) (f .headerIvLength) (length (f .suiteData)) (g .top .lead .t3) (g .top .lead .t5) (g .top .sized) (g .end .t19) (g .end .sized))
 
 body-written : (form : Form) (f : Fields) → Accepts form f → Sized (f .version) (f .messageType) (length (f .messageId)) (f .headerIvLength) (length (f .suiteData))
 body-written form f a =
     let g = good form f a in
-    sized (f .version) (f .messageType) (length (f .messageId)) (f .headerIvLength) (length (f .suiteData)) (g .top .t3) (g .top .rest .t5) (g .top .rest .sized) (g .end .t19) (g .end .sized)
+    sized (f .version) (f .messageType) (length (f .messageId)) (f .headerIvLength) (length (f .suiteData)) (g .top .lead .t3) (g .top .lead .t5) (g .top .sized) (g .end .t19) (g .end .sized)
 
 -- the authentication record
 auth-written : (suite iv tag : ℕ) → first (auth-checks suite iv tag) ≡ none → (iv ≡ 12) × (tag ≡ 16)

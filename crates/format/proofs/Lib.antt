@@ -23,6 +23,7 @@ pub mod RunsExact
 pub mod FramesExact
 pub mod FirstBody
 pub mod Writers
+pub mod ListedEnds
 pub mod Listed
 pub mod Wanted
 pub mod Helps
@@ -56,3 +57,6 @@ pub mod Pinned
 pub mod KeyOrder
 pub mod SelectionLaws
 pub mod Selection
+pub mod PolicyRead
+pub mod PolicyWritten
+pub mod UnderPolicy

@@ -1,6 +1,7 @@
 -- Which refusals a reader can answer: the numbers of its tests, in their order. Assumes nothing.
 use mathlib.Core.Path.{_≡_, refl, sym, _∙_}
 use mathlib.Core.Bool.{Bool, true, false, not, _&&_, _||_}
+use mathlib.Core.Option.{Option, none, some}
 use mathlib.Core.List.{List, [], _∷_, _++_, List·Memᴰ, List·Memᴰ·head, List·Memᴰ·tail}
 use Prim.Native.Nat.{ℕ, _+_, _-_, _≤_}
 use native.Mathlib.Omega.{arith}
@@ -12,13 +13,15 @@ use Rattle.format.specs.Shared.{read-message-format-version, read-esdk-s
 use Rattle.format.specs.Fields.{PairAt, EncryptedDataKeyAt}
 use Rattle.format.specs.Context.{Mode, tolerant, strict, read-text, read-aad-pair, read-next-aad-pair, read-aad-by, read-aad, read-aad-of, read-aad-section, ContextAt, with-mark, read-aad-section-into, look-up, find-value}
 use Rattle.format.specs.Keys.{Max, read-encrypted-data-key, read-encrypted-data-keys-of, read-encrypted-data-keys-section, read-encrypted-data-keys-section-into}
-use Rattle.format.specs.Body.{Which, either, v1-only, v2-only, read-opening-of, read-opening, read-closing-of, read-closing, Opening, Request, after-keys, after-context, after-opening, read-body}
+use Rattle.format.specs.Policies.{lets-read}
+use Rattle.format.specs.Body.{Which, Opening, read-opening, Request, after-keys, after-context, after-opening, read-body}
 use Rattle.format.specs.Auth.{read-header-auth-tag-of, read-header-auth-tag}
 use Rattle.format.specs.OnlyAuthenticated.{fitting, write-only-authenticated}
-use Rattle.format.specs.Refusals.{section-refusals, context-refusals, find-refusals, only-authenticated-refusals, opening-refusals, reserved-refusals, frame-refusals, closing-refusals, key-section-refusals, keys-refusals, body-refusals, auth-refusals, frames-refusals, Refusal, RefusesBy, Refusals}
+use Rattle.format.specs.Refusals.{section-refusals, context-refusals, find-refusals, only-authenticated-refusals, opening-refusals, passing, closing-refusals, numbers-behind, key-section-refusals, keys-refusals, body-refusals, auth-refusals, frames-refusals, Refusal, RefusesBy, Refusals}
 use Rattle.format.proofs.Tests.{is-eqb}
 use Rattle.format.proofs.Members.{has, has-neither, no-member}
-use Rattle.format.proofs.ListedLaws.{Fine, Listed, listed-as, also, bind-listed, then-listed, return-listed, sure-listed, test-listed, held-refusals, held-listed, read-listed, uint8-listed, uint16-listed, uint32-listed, repeat-listed, enclosed-listed, Gives, return-gives, bind-gives, passed-listed, passed-gives, given-listed, marked-listed}
+use Rattle.format.proofs.ListedLaws.{Fine, Listed, listed-as, also, bind-listed, then-listed, return-listed, sure-listed, test-listed, held-refusals, held-listed, read-listed, uint8-listed, uint16-listed, uint32-listed, repeat-listed, enclosed-listed, given-listed, marked-listed}
+use Rattle.format.proofs.ListedEnds.{Opened, opening-listed, opening-gives, closing-listed, tables-listed, frames-listed, Without, opening-without, closing-without}
 use Rattle.format.proofs.Frames.{frames-into-listed}
 use Rattle.format.proofs.Messages.{cases}
 
@@ -111,89 +114,24 @@ unfolding read-encrypted-data-keys-section-into
 keys-into-listed max room = bind-listed (keys-listed max) (λ ks. then-listed (test-listed 23 _) (return-listed _))
 
 -- a body
-suite-listed : (version : ℕ) → Listed (6 ∷ 7 ∷ []) (read-esdk-suite-id version)
-unfolding read-esdk-suite-id
-suite-listed version = bind-listed uint16-listed (λ x. then-listed (test-listed 6 _) (then-listed (test-listed 7 _) (return-listed _)))
-
--- after the version byte, in version 2 and in either
-second-listed : Listed (6 ∷ 7 ∷ []) (read-opening-of false)
-unfolding read-opening-of
-second-listed = bind-listed (suite-listed 2) (λ x. bind-listed (read-listed _) (λ id. return-listed _))
-
-rest-listed : (v1 : Bool) → Listed (5 ∷ 6 ∷ 7 ∷ []) (read-opening-of v1)
-unfolding read-opening-of
-rest-listed true = bind-listed uint8-listed (λ t. then-listed (test-listed 5 _) (bind-listed (suite-listed 1) (λ x. bind-listed (read-listed _) (λ id. return-listed _))))
-rest-listed false = also 5 second-listed
-
-version-listed : Listed (3 ∷ []) read-message-format-version
-unfolding read-message-format-version
-version-listed = bind-listed uint8-listed (λ v. then-listed (test-listed 3 _) (return-listed _))
-
-not-one : (v : ℕ) → eqb v 2 ≡ true → eqb v 1 ≡ false
-not-one v e = rw (is-eqb v 2 e) refl
-
-pub opening-listed : (which : Which) → Listed (opening-refusals which) (read-opening which)
-unfolding read-opening opening-refusals
-opening-listed either = bind-listed version-listed (λ v. then-listed (sure-listed 4 refl) (rest-listed (eqb v 1)))
-opening-listed v1-only = bind-listed version-listed (λ v. then-listed (test-listed 4 _) (rest-listed (eqb v 1)))
-opening-listed v2-only = bind-listed version-listed (λ v. passed-listed 4 (eqb v 2) (λ e. rw (not-one v e) second-listed))
-
--- what the reader of version 2 alone opens is of version 2
-abbrev Opened : Which → Opening → Type 0
-Opened either o = Unit {0}
-Opened v1-only o = Unit {0}
-Opened v2-only o = eqb (o .version) 1 ≡ false
-
-second-gives : Gives (Opened v2-only) (read-opening-of false)
-unfolding read-opening-of
-second-gives = bind-gives _ (λ x. bind-gives _ (λ id. return-gives _ refl))
-
-opening-gives : (which : Which) → Gives (Opened which) (read-opening which)
-unfolding read-opening
-opening-gives either = record { given = λ l s o l′ t e. tt }
-opening-gives v1-only = record { given = λ l s o l′ t e. tt }
-opening-gives v2-only = bind-gives _ (λ v. passed-gives 4 (eqb v 2) (λ e. rw (not-one v e) second-gives))
-
-content-listed : Listed (17 ∷ []) read-content-type
-unfolding read-content-type
-content-listed = bind-listed uint8-listed (λ v. then-listed (test-listed 17 _) (return-listed _))
-
-second-closing-listed : (content : ℕ) → Listed [] (read-closing-of false content)
-unfolding read-closing-of
-second-closing-listed content = bind-listed uint32-listed (λ f. bind-listed (read-listed _) (λ x. return-listed _))
-
-closing-of-listed : (v1 : Bool) (content : ℕ) → Listed (18 ∷ 19 ∷ []) (read-closing-of v1 content)
-unfolding read-closing-of
-closing-of-listed true content =
-    bind-listed uint32-listed (λ r. then-listed (test-listed 18 _) (bind-listed uint8-listed (λ i. then-listed (test-listed 19 _) (bind-listed uint32-listed (λ f. return-listed _)))))
-closing-of-listed false content = also 18 (also 19 (second-closing-listed content))
-
-closing-listed : (which : Which) (o : Opening) → Opened which o → Listed (17 ∷ reserved-refusals which) (read-closing (eqb (o .version) 1))
-unfolding read-closing reserved-refusals
-closing-listed either o h = bind-listed content-listed (closing-of-listed _)
-closing-listed v1-only o h = bind-listed content-listed (closing-of-listed _)
-closing-listed v2-only o h = rw h (bind-listed content-listed second-closing-listed)
-
-tables-listed : (p k : Bool) {A : Type 0} (a : A) → Listed (22 ∷ 23 ∷ []) (test 22 p >> (test 23 k >> return a))
-tables-listed p k a = then-listed (test-listed 22 p) (then-listed (test-listed 23 k) (return-listed a))
-
-frames-listed : (frames fits : Bool) {A : Type 0} {r : Reader A} → Listed (22 ∷ 23 ∷ []) r → Listed (frame-refusals frames ++ (22 ∷ 23 ∷ [])) (test 20 (not frames || fits) >> r)
-unfolding frame-refusals
-frames-listed true fits h = then-listed (test-listed 20 _) h
-frames-listed false fits h = then-listed (sure-listed 20 refl) h
-
 -- by a version that what was opened is of; whatever was asked for, it is of either
-pub after-keys-listed : (which : Which) (q : Request) (o : Opening) → Opened which o → (x : ContextAt) (ks : List EncryptedDataKeyAt) → Listed (closing-refusals which (q .frames)) (after-keys q o x ks)
+pub after-keys-listed : (which : Which) (q : Request) (o : Opening) → Opened (some which) (o .version) → (x : ContextAt) (ks : List EncryptedDataKeyAt) → Listed (closing-refusals which (q .frames)) (after-keys q o x ks)
 unfolding after-keys closing-refusals
-after-keys-listed which q o h x ks = bind-listed (closing-listed which o h) (λ c. frames-listed (q .frames) (frame-fits (c .contentType) (c .frameLength)) (tables-listed _ _ _))
+after-keys-listed which q o h x ks = bind-listed (closing-listed which (o .version) h) (λ c. frames-listed (q .frames) (frame-fits (c .contentType) (c .frameLength)) (tables-listed _ _ _))
 
 -- a body, whatever its sections are read by
 abbrev pub body-numbers : Request → List ℕ → List ℕ → List ℕ
-body-numbers q ks js = opening-refusals (q .which) ++ (ks ++ (js ++ closing-refusals (q .which) (q .frames)))
+body-numbers q ks js = opening-refusals (q .which) (q .policy) ++ numbers-behind (passing (lets-read (q .policy) 1) (q .which)) ks js (q .frames)
+
+opened-listed : (q : Request) {ks js : List ℕ} {section : Reader (List PairAt)} {keys : Reader (List EncryptedDataKeyAt)} → Listed ks section → Listed js keys
+    → (p : Option Which) (o : Opening) → Opened p (o .version) → Listed (numbers-behind p ks js (q .frames)) (with-mark section >>= λ x. keys >>= after-keys q o x)
+unfolding numbers-behind
+opened-listed q h k none o g = absurd g
+opened-listed q h k (some which) o g = bind-listed (marked-listed h) (λ x. bind-listed k (after-keys-listed which q o g x))
 
 pub body-listed-by : (q : Request) {ks js : List ℕ} {section : Reader (List PairAt)} {keys : Reader (List EncryptedDataKeyAt)} → Listed ks section → Listed js keys
-    → Listed (body-numbers q ks js) (read-opening (q .which) >>= λ o. with-mark section >>= λ x. keys >>= after-keys q o x)
-body-listed-by q h k = given-listed (opening-listed (q .which)) (opening-gives (q .which)) (λ o g. bind-listed (marked-listed h) (λ x. bind-listed k (after-keys-listed (q .which) q o g x)))
+    → Listed (body-numbers q ks js) (read-opening (q .which) (q .policy) >>= λ o. with-mark section >>= λ x. keys >>= after-keys q o x)
+body-listed-by q h k = given-listed (opening-listed (q .which) (q .policy)) (opening-gives (q .which) (q .policy)) (opened-listed q h k _)
 
 body-listed : (q : Request) → Listed (body-numbers q (section-refusals (q .mode)) key-section-refusals) (read-body q)
 unfolding read-body after-opening after-context
@@ -241,47 +179,29 @@ module _ {A : Type 0} (ks : List ℕ) (r : Reader A) (no-two : List·Memᴰ 2 ks
 pub never-listed : {A : Type 0} (k : ℕ) (ks : List ℕ) → has (1 ∷ 2 ∷ ks) k ≡ false → (r : Reader A) → RefusesBy (1 ∷ 2 ∷ ks) r → (m : List ℕ) (s p : ℕ) → operation r m s ≡ refused k p → ⊥
 never-listed k ks e r h m s p q = no-member (1 ∷ 2 ∷ ks) k e (h m s k p q .is-listed)
 
--- What stands before a body's sections and behind them, by what was asked: 2 is listed by itself, 32 is a context section's, 38 a key section's, and
--- 13 only a writer's.
-abbrev Without : ℕ → List ℕ → Type 0
-Without k ks = has ks k ≡ false
-
-abbrev WithoutThese : List ℕ → Type 0
-WithoutThese ks = Without 2 ks × Without 13 ks × Without 32 ks × Without 38 ks
-
-pub opening-without : (which : Which) → WithoutThese (opening-refusals which)
-unfolding opening-refusals
-opening-without either = (refl, refl, refl, refl)
-opening-without v1-only = (refl, refl, refl, refl)
-opening-without v2-only = (refl, refl, refl, refl)
-
-pub closing-without : (which : Which) (frames : Bool) → WithoutThese (closing-refusals which frames)
-unfolding reserved-refusals frame-refusals closing-refusals
-closing-without either true = (refl, refl, refl, refl)
-closing-without either false = (refl, refl, refl, refl)
-closing-without v1-only true = (refl, refl, refl, refl)
-closing-without v1-only false = (refl, refl, refl, refl)
-closing-without v2-only true = (refl, refl, refl, refl)
-closing-without v2-only false = (refl, refl, refl, refl)
-
 -- a body's numbers with the sections' between them
 module _ (q : Request) (ks js : List ℕ) where
-  neither : (k : ℕ) → Without k (opening-refusals (q .which)) → Without k (closing-refusals (q .which) (q .frames)) → Without k ks → Without k js → Without k (body-numbers q ks js)
+  behind-without : (k : ℕ) (p : Option Which) → ((which : Which) → Without k (closing-refusals which (q .frames))) → Without k ks → Without k js → Without k (numbers-behind p ks js (q .frames))
+  unfolding numbers-behind
+  behind-without k none c e f = refl
+  behind-without k (some which) c e f = has-neither ks (js ++ closing-refusals which (q .frames)) k e (has-neither js (closing-refusals which (q .frames)) k f (c which))
+
+  neither : (k : ℕ) → Without k (opening-refusals (q .which) (q .policy)) → ((which : Which) → Without k (closing-refusals which (q .frames))) → Without k ks → Without k js → Without k (body-numbers q ks js)
   neither k o c e f =
-      let closing = closing-refusals (q .which) (q .frames) in
-      has-neither (opening-refusals (q .which)) (ks ++ (js ++ closing)) k o (has-neither ks (js ++ closing) k e (has-neither js closing k f c))
+      let passed = passing (lets-read (q .policy) 1) (q .which) in
+      has-neither (opening-refusals (q .which) (q .policy)) (numbers-behind passed ks js (q .frames)) k o (behind-without k passed c e f)
 
   pub body-without-2 : Without 2 ks → Without 2 js → Without 2 (body-numbers q ks js)
-  body-without-2 = neither 2 (opening-without (q .which) .0) (closing-without (q .which) (q .frames) .0)
+  body-without-2 = neither 2 (opening-without (q .which) (q .policy) .0) (λ which. closing-without which (q .frames) .0)
 
   pub body-without-13 : Without 13 ks → Without 13 js → Without 13 (body-numbers q ks js)
-  body-without-13 = neither 13 (opening-without (q .which) .1) (closing-without (q .which) (q .frames) .1)
+  body-without-13 = neither 13 (opening-without (q .which) (q .policy) .1) (λ which. closing-without which (q .frames) .1)
 
   pub body-without-32 : Without 32 ks → Without 32 js → Without 32 (body-numbers q ks js)
-  body-without-32 = neither 32 (opening-without (q .which) .2) (closing-without (q .which) (q .frames) .2)
+  body-without-32 = neither 32 (opening-without (q .which) (q .policy) .2) (λ which. closing-without which (q .frames) .2)
 
   pub body-without-38 : Without 38 ks → Without 38 js → Without 38 (body-numbers q ks js)
-  body-without-38 = neither 38 (opening-without (q .which) .3) (closing-without (q .which) (q .frames) .3)
+  body-without-38 = neither 38 (opening-without (q .which) (q .policy) .3) (λ which. closing-without which (q .frames) .3)
 
 -- a section's, which have 32 among them
 pub section-without : (mode : Mode) → Without 2 (section-refusals mode) × Without 13 (section-refusals mode) × Without 38 (section-refusals mode)

@@ -1,8 +1,8 @@
 -- Which refusals a reader can answer, as a judgement that composes: sequence, test, counted repetition, an enclosed section. Assumes nothing.
-use mathlib.Core.Path.{_≡_, refl, sym}
+use mathlib.Core.Path.{_≡_, refl, sym, subst}
 use mathlib.Core.Bool.{Bool, true, false}
 use mathlib.Core.Logic.{⊎-elim}
-use mathlib.Core.List.{List, [], _∷_, _++_, List·Memᴰ, List·Memᴰ·head, List·Memᴰ·tail, List·Memᴰ·append-cases, Memᴰ·append-left, Memᴰ·append-right}
+use mathlib.Core.List.{List, [], _∷_, _++_, append-nil, List·Memᴰ, List·Memᴰ·head, List·Memᴰ·tail, List·Memᴰ·append-cases, Memᴰ·append-left, Memᴰ·append-right}
 use Prim.Native.Nat.{ℕ, zero, suc, _+_, _≤_, _<_}
 use native.Mathlib.Omega.{arith}
 use lib.Dec.{leb, eqb}
@@ -62,6 +62,11 @@ module _ {A B : Type 0} where
   pub then-listed : {ks js : List ℕ} {r : Reader A} {q : Reader B} → Listed ks r → Listed js q → Listed (ks ++ js) (r >> q)
   unfolding _>>_
   then-listed {ks} {js} {r} {q} hr hq = record { fine = λ l s. goes-on ks js (λ a. q) (λ a. hq) (s + length l) (r l s) (hr .fine l s) }
+
+-- with nothing refused behind it
+module _ {A B : Type 0} where
+  pub behind-listed : {ks : List ℕ} {r : Reader A} {q : Reader B} → Listed ks r → Listed [] q → Listed ks (r >> q)
+  behind-listed {ks} {r} {q} hr hq = subst (λ js. Listed js (r >> q)) (append-nil ks) (then-listed hr hq)
 
 pub return-listed : {A : Type 0} (a : A) → Listed [] (return a)
 unfolding return
@@ -147,14 +152,18 @@ unfolding return
 return-gives {A} {good} a h = record { given = λ l s b l′ t e. (let q : a ≡ b = cc in rw q at h) }
 
 module _ {A B : Type 0} {good : B → Type 0} where
-  pub bind-gives : (r : Reader A) {f : A → Reader B} → ((a : A) → Gives good (f a)) → Gives good (r >>= f)
+  -- behind a reader it is known that what it gave is good
+  pub given-gives : {fine : A → Type 0} {r : Reader A} {f : A → Reader B} → Gives fine r → ((a : A) → fine a → Gives good (f a)) → Gives good (r >>= f)
   unfolding _>>=_
-  bind-gives r {f} h = record { given = λ l s b l′ t e. go (r l s) b l′ t e }
+  given-gives {fine} {r} {f} hr h = record { given = λ l s b l′ t e. go l s (r l s) refl b l′ t e }
     where
-      go : (x : ReadResult A) (b : B) (l′ : List ℕ) (t : ℕ) → go-on x f ≡ success b l′ t → good b
-      go (success a l₁ t₁) b l′ t e = h a .given l₁ t₁ b l′ t e
-      go (more-needed p) b l′ t e = more-is-no-success e
-      go (error k) b l′ t e = error-is-no-success e
+      go : (l : List ℕ) (s : ℕ) (x : ReadResult A) → r l s ≡ x → (b : B) (l′ : List ℕ) (t : ℕ) → go-on x f ≡ success b l′ t → good b
+      go l s (success a l₁ t₁) i b l′ t e = h a (hr .given l s a l₁ t₁ i) .given l₁ t₁ b l′ t e
+      go l s (more-needed p) i b l′ t e = more-is-no-success e
+      go l s (error k) i b l′ t e = error-is-no-success e
+
+  pub bind-gives : (r : Reader A) {f : A → Reader B} → ((a : A) → Gives good (f a)) → Gives good (r >>= f)
+  bind-gives r h = given-gives {fine = λ a. Unit {0}} (record { given = λ l s a l′ t e. tt }) (λ a u. h a)
 
 -- behind a test it is known that it passed
 module _ {A : Type 0} (k : ℕ) (b : Bool) {q : Reader A} where

@@ -10,7 +10,8 @@ use Rattle.format.specs.Serialize.{Bytes}
 use Rattle.format.specs.Fields.{Form, today, old, Pair, HeaderBody}
 use Rattle.format.specs.Context.{Mode, tolerant, strict}
 use Rattle.format.specs.Keys.{Max}
-use Rattle.format.specs.Body.{Which, Request, request, tests-frames, read-body, read-header-body}
+use Rattle.format.specs.Policies.{no-policy}
+use Rattle.format.specs.Body.{Which, Request, request, tests-frames, read-body, read-header-body-under, read-header-body}
 use Rattle.format.specs.Checks.{fits-form}
 use Rattle.format.specs.Demand3.{reaches-old, Marks}
 use Rattle.format.specs.Sections.{Allowed}
@@ -43,7 +44,7 @@ module _ (which : Which) (max : Max) (pairRoom keyRoom : ℕ) (m : List ℕ) (s 
   Read mode b t = (l : List ℕ) × Took (BodyOk (asks mode)) sent-bytes body-at (drop s m) s b l t
 
   read : (mode : Mode) (b : HeaderBody) (t : ℕ) → said mode ≡ accepted b t → Read mode b t
-  unfolding read-header-body
+  unfolding read-header-body-under
   read mode b t e = accepted-took (body-exact (asks mode)) m s hb b t e
 
   form-is : (mode : Mode) (b : HeaderBody) (t : ℕ) (x : Read mode b t) → b .form ≡ x .1 .value .form
@@ -72,19 +73,19 @@ module _ (which : Which) (max : Max) (pairRoom keyRoom : ℕ) (m : List ℕ) (s 
       }
 
   accepted-strict : (b : HeaderBody) (t : ℕ) → said tolerant ≡ accepted b t → Read tolerant b t → b .form ≡ today → said strict ≡ accepted b t
-  unfolding read-header-body
+  unfolding read-header-body-under
   accepted-strict b t e x f =
       let ok = today-strict (x .1 .value) (sym (form-is tolerant b t x) ∙ f) (x .1 .good) in
       cases (read-body (asks tolerant)) m s (λ no. refused-is-no-accepted (sym no ∙ e)) (λ h k is.
       rw (operation-here (read-body (asks strict)) m s h k, x .1 .split, body-exact (asks strict) .complete (x .1 .value) s (x .0) ok, x .1 .placed, x .1 .tail) refl)
 
-  by-the-section : (mode : Mode) (b : HeaderBody) (t : ℕ) → said mode ≡ accepted b t → b .form ≡ cond (reaches-old which m s) old today
-  by-the-section mode b t e = by mode (reaches-old which m s) refl e (b .form) refl
+  by-the-section : (mode : Mode) (b : HeaderBody) (t : ℕ) → said mode ≡ accepted b t → b .form ≡ cond (reaches-old no-policy which m s) old today
+  by-the-section mode b t e = by mode (reaches-old no-policy which m s) refl e (b .form) refl
     where
-      answers : said strict ≡ cond (reaches-old which m s) (refused 21 0) (said tolerant)
-      answers = sentence-2 which max pairRoom keyRoom m s hb .answers
+      answers : said strict ≡ cond (reaches-old no-policy which m s) (refused 21 0) (said tolerant)
+      answers = sentence-2 no-policy which max pairRoom keyRoom m s hb .answers
 
-      by : (mode : Mode) (r : Bool) → reaches-old which m s ≡ r → said mode ≡ accepted b t → (form : Form) → b .form ≡ form → form ≡ cond r old today
+      by : (mode : Mode) (r : Bool) → reaches-old no-policy which m s ≡ r → said mode ≡ accepted b t → (form : Form) → b .form ≡ form → form ≡ cond r old today
       by tolerant true q e today f = refused-is-no-accepted (sym (rw q at answers) ∙ accepted-strict b t e (read tolerant b t e) f)
       by tolerant true q e old f = refl
       by tolerant false q e form f = sym f ∙ strictly b t (read strict b t ((rw q at answers) ∙ e))

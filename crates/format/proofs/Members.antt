@@ -24,7 +24,7 @@ is-member (j ∷ js) k e = go (eqb k j) refl e (is-member js k)
     go true q e ih = List·Memᴰ·head (is-eqb k j q)
     go false q e ih = List·Memᴰ·tail (ih e)
 
-member-is : (js : List ℕ) (k : ℕ) → List·Memᴰ k js → has js k ≡ true
+pub member-is : (js : List ℕ) (k : ℕ) → List·Memᴰ k js → has js k ≡ true
 member-is (j ∷ js) k (List·Memᴰ·head e) = rw (eqb-is k j e) refl
 member-is (j ∷ js) k (List·Memᴰ·tail h) = or-right (eqb k j) (member-is js k h)
 

@@ -30,7 +30,8 @@ use Rattle.format.proofs.Members.{has}
 use Rattle.format.proofs.Messages.{bytes-drop, cases, operation-here, accepted-inside}
 use Rattle.format.proofs.Lines.{first-line, join-none, none-join, one-none, none-applies, applies-none, Goes, stopped}
 use Rattle.format.proofs.ListedLaws.{Listed, not-listed, then-listed, return-listed, test-listed, uint16-listed, marked-listed, Gives, return-gives, bind-gives, passed-gives}
-use Rattle.format.proofs.Listed.{counted-listed, opening-listed, opening-without, section-listed, section-without, after-keys-listed, closing-without}
+use Rattle.format.proofs.ListedEnds.{opening-listed, opening-without, closing-without}
+use Rattle.format.proofs.Listed.{counted-listed, section-listed, section-without, after-keys-listed}
 use Rattle.format.proofs.First.{there, uint16-goes, marked-goes}
 use Rattle.format.proofs.FirstBody.{opening-goes}
 use Rattle.format.proofs.Exact.{error-is-no-success}
@@ -168,10 +169,10 @@ module _ (q : Request) (m : List ℕ) (s : ℕ) where
   unfolding read-body after-opening after-context before-keys
   body-then e =
       let (fits, near, e₀) = addressed (read-body q) m s e in
-      let (opened, e₁) = passed (opening-refusals (q .which)) (opening-without (q .which) .3) (opening-goes (q .which)) (opening-listed (q .which)) _ m s e₀ in
+      let (opened, e₁) = passed (opening-refusals (q .which) (q .policy)) (opening-without (q .which) (q .policy) .3) (opening-goes (q .which) (q .policy)) (opening-listed (q .which) (q .policy)) _ m s e₀ in
       let (read, e₂) = passed (section-refusals (q .mode)) (section-without (q .mode) .2) (marked-goes (q .mode)) (marked-listed (section-listed (q .mode))) _ m aad e₁ in
       record {
-        reached = reached (before-keys q) m s fits near (none-join (opening-list (q .which) m s) (context-list (q .mode) m aad) opened read);
+        reached = reached (before-keys q) m s fits near (none-join (opening-list (q .which) (q .policy) m s) (context-list (q .mode) m aad) opened read);
         count = zero-there (closing-refusals either (q .frames)) (closing-without either (q .frames) .3) _ (after-keys-listed either q _ tt _) (q .max) m (entry-end m aad) e₂;
       }
 
@@ -179,9 +180,9 @@ module _ (q : Request) (m : List ℕ) (s : ℕ) where
   unfolding read-body after-opening after-context before-keys _>>=_
   then-body h =
       let (a, e) = reaches (before-keys q) m s (h .reached) in
-      let (opened, read) = join-none (opening-list (q .which) m s) (context-list (q .mode) m aad) e in
+      let (opened, read) = join-none (opening-list (q .which) (q .policy) m s) (context-list (q .mode) m aad) e in
       here (read-body q) m s a
-      ∙ rw (opening-goes (q .which) .passes m s opened, marked-goes (q .mode) .passes m aad read, zero-refused (q .max) m (entry-end m aad) (h .count)) refl
+      ∙ rw (opening-goes (q .which) (q .policy) .passes m s opened, marked-goes (q .mode) .passes m aad read, zero-refused (q .max) m (entry-end m aad) (h .count)) refl
 
   pub no-key-in : JustWhere (operation (read-body q) m s ≡ refused 38 0) (NoKeyIn q m s)
   no-key-in = record { onward = body-then; back = then-body }
@@ -204,9 +205,9 @@ unfolding source-read-body source-after-opening source-after-context before-keys
 no-keys-in q m s hb h b t e =
     let u = s + by (number8 m s) 20 35 in
     let (a, none-before) = reaches (before-keys q) m s (h .reached) in
-    let (opened, read) = join-none (opening-list (q .which) m s) (context-list (q .mode) m u) none-before in
+    let (opened, read) = join-none (opening-list (q .which) (q .policy) m s) (context-list (q .mode) m u) none-before in
     let ours = marked-goes (q .mode) .passes m u read in
     let theirs = read-alike (marked-both (section-both (q .mode))) (drop u m) u (bytes-drop u m hb) _ _ _ ours in
     let (l, is) = accepted-inside (source-read-body q) m s b t e in
     keys-given q _ _ [] .given (drop (entry-end m u + 2) m) (entry-end m u + 2) b l t
-    (rw (opening-goes (q .which) .passes m s opened, theirs, zero-read (q .max) m (entry-end m u) (h .count)) at is)
+    (rw (opening-goes (q .which) (q .policy) .passes m s opened, theirs, zero-read (q .max) m (entry-end m u) (h .count)) at is)

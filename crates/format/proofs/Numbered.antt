@@ -7,7 +7,7 @@ use Prim.Native.Nat.{ℕ}
 use native.Mathlib.Omega.{arith}
 use Rattle.format.specs.Checks.{Check, check, first, each}
 use Rattle.format.proofs.Firsts.{first-none, first-some}
-use Rattle.format.proofs.Members.{has}
+use Rattle.format.proofs.Members.{has, has-all, is-member, member-is, members}
 
 -- the refusal that they find is of the list
 pub record Numbered (ks : List ℕ) (cs : List Check) : Type 0 where
@@ -31,6 +31,15 @@ check-numbered {ks} {cs} k {b} h rest = record { found = λ j e. go j b e }
     go : (j : ℕ) (b : Bool) → _≡_ {A = Option ℕ} (elim b as (λ x. Option ℕ) [ true ↦ first cs | false ↦ some k ]) (some j) → has ks j ≡ true
     go j true e = rest .found j e
     go j false e = let z : k ≡ j = cc in rw z at h
+
+-- a check that never fails
+pub sure-numbered : {ks : List ℕ} {cs : List Check} (k : ℕ) → Numbered ks cs → Numbered ks (check k true ∷ cs)
+unfolding first
+sure-numbered k rest = record { found = rest .found }
+
+-- by a list that has every number of the other
+pub numbered-as : {ks : List ℕ} (js : List ℕ) → has-all js ks ≡ true → {cs : List Check} → Numbered ks cs → Numbered js cs
+numbered-as {ks} js e h = record { found = λ k f. member-is js k (members js ks e k (is-member ks k (h .found k f))) }
 
 pub each-numbered : {A : Type 0} {ks : List ℕ} (f : List A → A → List Check) → ((done : List A) (x : A) → Numbered ks (f done x)) → (done xs : List A) → Numbered ks (each f done xs)
 unfolding each

@@ -12,7 +12,8 @@ use Rattle.format.specs.Shared.{read-message-format-version}
 use Rattle.format.specs.Fields.{HeaderBody}
 use Rattle.format.specs.Context.{Mode}
 use Rattle.format.specs.Keys.{Max}
-use Rattle.format.specs.Body.{Which, either, v1-only, v2-only, asked, read-opening-of, read-opening, Request, request, after-keys, after-context, after-opening, read-body, read-header-body, read-header-body-untested}
+use Rattle.format.specs.Policies.{Policy}
+use Rattle.format.specs.Body.{Which, either, v1-only, v2-only, asked, read-lead-of, read-lead, after-lead, read-opening, Request, request-under, after-keys, after-context, after-opening, read-body, read-header-body-under, read-header-body-untested-under}
 use Rattle.format.specs.Demand3.{stands-at, Sentence3}
 use Rattle.format.proofs.Tests.{is-leb, is-nleb, is-eqb}
 use Rattle.format.proofs.Serialize.{read-fits, read-short}
@@ -45,23 +46,23 @@ none-in-front x = refl
 
 -- a body behind its version byte, by the outcome of the two comparisons
 from-version : Request → Bool → Bool → Bool → List ℕ → ℕ → ReadResult HeaderBody
-from-version q v1 v2 ask l s = go-on (go-on (test 3 (v1 || v2) l s) (λ u. test 4 ask >> read-opening-of v1)) (after-opening q)
+from-version q v1 v2 ask l s = go-on (go-on (go-on (test 3 (v1 || v2) l s) (λ u. test 4 ask >> read-lead-of v1)) (after-lead (q .policy))) (after-opening q)
 
-module _ (mode : Mode) (max : Max) (pairRoom keyRoom : ℕ) where
+module _ (policy : Policy) (mode : Mode) (max : Max) (pairRoom keyRoom : ℕ) where
   abbrev asks : Which → Request
-  asks which = request which mode false max pairRoom keyRoom
+  asks which = request-under policy which mode false max pairRoom keyRoom
 
   body-front : (which : Which) (x : ℕ) (l : List ℕ) (s : ℕ) → read-body (asks which) (x ∷ l) s ≡ from-version (asks which) (eqb x 1) (eqb x 2) (asked which x) l (s + 1)
-  unfolding read-body read-opening read-message-format-version from-version _>>=_ _>>_ return test
+  unfolding read-body read-opening read-lead read-message-format-version from-version _>>=_ _>>_ return test
   body-front which x l s = rw (one-byte x l s) (go (eqb x 1 || eqb x 2))
     where
-      go : (b : Bool) → go-on (go-on (go-on (test 3 b l (s + 1)) (λ u. return x)) (λ v. test 4 (asked which v) >> read-opening-of (eqb v 1))) (after-opening (asks which))
-          ≡ go-on (go-on (test 3 b l (s + 1)) (λ u. test 4 (asked which x) >> read-opening-of (eqb x 1))) (after-opening (asks which))
+      go : (b : Bool) → go-on (go-on (go-on (go-on (test 3 b l (s + 1)) (λ u. return x)) (λ v. test 4 (asked which v) >> read-lead-of (eqb v 1))) (after-lead policy)) (after-opening (asks which))
+          ≡ go-on (go-on (go-on (test 3 b l (s + 1)) (λ u. test 4 (asked which x) >> read-lead-of (eqb x 1))) (after-lead policy)) (after-opening (asks which))
       go true = refl
       go false = refl
 
   body-none : (which : Which) (s : ℕ) → read-body (asks which) [] s ≡ more-needed (s + 1)
-  unfolding read-body read-opening read-message-format-version _>>=_
+  unfolding read-body read-opening read-lead read-message-format-version _>>=_
   body-none which s = rw (no-byte s) refl
 
   module _ (x : ℕ) (l : List ℕ) (s : ℕ) where
@@ -100,11 +101,11 @@ module _ {A : Type 0} (r q : Reader A) (x : ℕ) (h : (l : List ℕ) (s : ℕ) �
           let w : length m ≤ s = omega arith in
           rw (operation-far r m s z, operation-far q m s z, drop-of-length-le m w, none-in-front x) refl
 
-pub sentence-3 : (mode : Mode) (max : Max) (pairRoom keyRoom : ℕ) (m : List ℕ) (s : ℕ) → length m ≤ 4294967295 → Sentence3 mode max pairRoom keyRoom m s
-unfolding read-header-body read-header-body-untested
-sentence-3 mode max pairRoom keyRoom m s fits =
+pub sentence-3 : (policy : Policy) (mode : Mode) (max : Max) (pairRoom keyRoom : ℕ) (m : List ℕ) (s : ℕ) → length m ≤ 4294967295 → Sentence3 policy mode max pairRoom keyRoom m s
+unfolding read-header-body-under read-header-body-untested-under
+sentence-3 policy mode max pairRoom keyRoom m s fits =
     record {
-      version-1 = lifted _ _ 2 (one-body mode max pairRoom keyRoom) m s fits;
-      version-2 = lifted _ _ 1 (two-body mode max pairRoom keyRoom) m s fits;
-      untested = first-refusals .of-body (request either mode false max pairRoom keyRoom) m s;
+      version-1 = lifted _ _ 2 (one-body policy mode max pairRoom keyRoom) m s fits;
+      version-2 = lifted _ _ 1 (two-body policy mode max pairRoom keyRoom) m s fits;
+      untested = first-refusals .of-body (request-under policy either mode false max pairRoom keyRoom) m s;
     }

@@ -16,6 +16,7 @@ use Rattle.format.specs.Fields.{Form, today, old, Pair, EncryptedDataKey
 use Rattle.format.specs.Checks.{first, count-checks, fits-form}
 use Rattle.format.specs.Context.{write-aad-pair, write-aad-pairs}
 use Rattle.format.specs.Keys.{write-encrypted-data-key, write-encrypted-data-keys}
+use Rattle.format.specs.Policies.{Policy}
 use Rattle.format.specs.Body.{Which, either, v1-only, v2-only, Opening, read-opening, tests-frames}
 use Rattle.format.specs.Lent.{bytes-at}
 use Rattle.format.specs.Places.{number8}
@@ -89,20 +90,20 @@ none-counted : first (count-checks 0 (images key-parts [])) ≡ none
 unfolding first images every
 none-counted = refl
 
-module _ (which : Which) (m : List ℕ) (s : ℕ) where
+module _ (which : Which) (policy : Policy) (m : List ℕ) (s : ℕ) where
   abbrev Reached : Type 0
-  Reached = NoneApplies (operation-list (opening-list which) m s) × (bytes-at m (s + by (number8 m s) 20 35) 4 ≡ (0x00 ∷ 0x02 ∷ 0x00 ∷ 0x00 ∷ []))
+  Reached = NoneApplies (operation-list (opening-list which policy) m s) × (bytes-at m (s + by (number8 m s) 20 35) 4 ≡ (0x00 ∷ 0x02 ∷ 0x00 ∷ 0x00 ∷ []))
 
-  is-reached : (a : Answer Opening) → operation (read-opening which) m s ≡ a → reached-old m a ≡ true → Reached
-  is-reached (accepted o t) q e = let (n, w) = none-applied (opening-goes which) m s o t q in (n, rw w (same-equal _ _ e))
+  is-reached : (a : Answer Opening) → operation (read-opening which policy) m s ≡ a → reached-old m a ≡ true → Reached
+  is-reached (accepted o t) q e = let (n, w) = none-applied (opening-goes which policy) m s o t q in (n, rw w (same-equal _ _ e))
   is-reached (refused k p) q e = let z : _≡_ {A = ℕ} 0 1 = cc in absurd (omega arith)
 
-  reaches : Decides (reaches-old which m s) Reached
+  reaches : Decides (reaches-old policy which m s) Reached
   unfolding reaches-old
   reaches =
       record {
-        then-holds = is-reached (operation (read-opening which) m s) refl;
-        holds-then = λ h. rw (first-refusal (opening-goes which) m s .accepts (h .0)) (rw (h .1) (equal-same _));
+        then-holds = is-reached (operation (read-opening which policy) m s) refl;
+        holds-then = λ h. rw (first-refusal (opening-goes which policy) m s .accepts (h .0)) (rw (h .1) (equal-same _));
       }
 
 module _ (n : ℕ) (m : List ℕ) (s : ℕ) where

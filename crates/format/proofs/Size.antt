@@ -10,15 +10,17 @@ use lib.Dec.{leb, eqb}
 use lib.ListN.{length, length-append}
 use Rattle.format.specs.Read.{accepted, refused}
 use Rattle.format.specs.Fields.{Form, today, old, Pair, EncryptedDataKey}
+use Rattle.format.specs.Shared.{id-length}
+use Rattle.format.specs.Policies.{Policy, no-policy, forbid-encrypt-allow-decrypt, require-encrypt-allow-decrypt, require-encrypt-require-decrypt, lets-write}
 use Rattle.format.specs.Body.{image}
-use Rattle.format.specs.Checks.{Check, first, pair-checks, key-checks, frame-checks, content-checks, content-length, pairs-checks, keys-checks, body-checks, frames-checks}
-use Rattle.format.specs.Lent.{Writing, refusal-of, written-of, written, size-of, table-checks, frames-in, BodyToWrite, fields-to-write, writing-header-body, writing-frames}
+use Rattle.format.specs.Checks.{Check, check, first, lead-checks, form-checks, closing-checks, pair-checks, key-checks, frame-checks, content-checks, content-length, pairs-checks, keys-checks, body-checks-under, frames-checks}
+use Rattle.format.specs.Lent.{Writing, refusal-of, written-of, written, size-of, table-checks, frames-in, BodyToWrite, fields-to-write, writing-header-body-under, writing-header-body, writing-frames}
 use Rattle.format.specs.Demand3.{the-old, mark-by}
-use Rattle.format.specs.Size.{SizeLaw, size-refusals, frames-size-refusals, GivenBy, marked, longer, SizeLaws}
+use Rattle.format.specs.Size.{SizeLaw, writing-policy-refusals, size-refusals, frames-size-refusals, GivenBy, marked, longer, SizeLaws}
 use Rattle.format.proofs.Tests.{nleb-is, is-leb, is-nleb, is-eqb}
 use Rattle.format.proofs.Firsts.{holds, split, first-stop, first-none, first-some}
-use Rattle.format.proofs.Members.{has, is-member, no-member}
-use Rattle.format.proofs.Numbered.{Numbered, none-numbered, then-numbered, check-numbered, each-numbered}
+use Rattle.format.proofs.Members.{has, has-all, is-member, no-member}
+use Rattle.format.proofs.Numbered.{Numbered, none-numbered, then-numbered, check-numbered, sure-numbered, numbered-as, each-numbered}
 use Rattle.format.proofs.Writers.{of-accepted, of-refused, none-then, writer-law}
 use Rattle.format.proofs.Written.{same-images}
 
@@ -93,23 +95,61 @@ table-numbered : {ks : List ℕ} {cs : List Check} → has ks 26 ≡ true → (k
 unfolding table-checks
 table-numbered e k text table h = check-numbered 26 e (check-numbered 26 e h)
 
-pairs-numbered : (ps : List Pair) → Numbered size-refusals (pairs-checks ps)
-unfolding size-refusals pairs-checks
+pairs-numbered : (ps : List Pair) → Numbered (size-refusals no-policy) (pairs-checks ps)
+unfolding size-refusals writing-policy-refusals pairs-checks
 pairs-numbered ps =
     check-numbered 27 refl (check-numbered 27 refl (then-numbered (each-numbered pair-checks (λ done p. check-numbered 10 refl (check-numbered 11 refl (check-numbered 12 refl none-numbered))) [] ps) (check-numbered 13 refl none-numbered)))
 
-keys-numbered : (ks : List EncryptedDataKey) → Numbered size-refusals (keys-checks ks)
-unfolding size-refusals keys-checks
+keys-numbered : (ks : List EncryptedDataKey) → Numbered (size-refusals no-policy) (keys-checks ks)
+unfolding size-refusals writing-policy-refusals keys-checks
 keys-numbered ks = check-numbered 27 refl (check-numbered 27 refl (check-numbered 38 refl (each-numbered key-checks (λ done k. check-numbered 16 refl none-numbered) [] ks)))
 
-body-numbered : (b : BodyToWrite) → Numbered size-refusals (writing-header-body b .checks)
-unfolding size-refusals writing-header-body body-checks
-body-numbered b =
-    let opening = check-numbered 3 refl (check-numbered 5 refl (check-numbered 6 refl (check-numbered 7 refl (check-numbered 24 refl none-numbered)))) in
+-- under any policy they are those without one, and 39 where the policy forbids a version
+none-more : (policy : Policy) → has-all (size-refusals policy) (size-refusals no-policy) ≡ true
+unfolding size-refusals writing-policy-refusals
+none-more no-policy = refl
+none-more forbid-encrypt-allow-decrypt = refl
+none-more require-encrypt-allow-decrypt = refl
+none-more require-encrypt-require-decrypt = refl
+
+policy-numbered : (policy : Policy) (version : ℕ) → Numbered (size-refusals policy) (check 39 (lets-write policy version) ∷ [])
+unfolding size-refusals writing-policy-refusals
+policy-numbered no-policy version = sure-numbered 39 none-numbered
+policy-numbered forbid-encrypt-allow-decrypt version = check-numbered 39 refl none-numbered
+policy-numbered require-encrypt-allow-decrypt version = check-numbered 39 refl none-numbered
+policy-numbered require-encrypt-require-decrypt version = check-numbered 39 refl none-numbered
+
+lead-numbered : (version messageType suite : ℕ) → Numbered (size-refusals no-policy) (lead-checks version messageType suite)
+unfolding size-refusals writing-policy-refusals
+lead-numbered version messageType suite = check-numbered 3 refl (check-numbered 5 refl (check-numbered 6 refl (check-numbered 7 refl none-numbered)))
+
+-- behind 39
+rest-numbered : (b : BodyToWrite) → let f = fields-to-write b in
+    Numbered (size-refusals no-policy)
+    (check 24 (eqb (length (f .messageId)) (id-length (f .version)))
+    ∷ ((table-checks 4 (b .text) (b .pairTable) ++ pairs-checks (f .pairs))
+    ++ (form-checks (b .form) (length (f .pairs))
+    ++ ((table-checks 6 (b .text) (b .keyTable) ++ keys-checks (f .keys))
+    ++ closing-checks (f .version) (f .contentType) (f .headerIvLength) (length (f .suiteData)) (f .frameLength)))))
+unfolding size-refusals writing-policy-refusals
+rest-numbered b =
     let closing = check-numbered 17 refl (check-numbered 19 refl (check-numbered 25 refl (check-numbered 20 refl none-numbered))) in
     let pairs = table-numbered refl 4 (b .text) (b .pairTable) (pairs-numbered (fields-to-write b .pairs)) in
     let keys = table-numbered refl 6 (b .text) (b .keyTable) (keys-numbered (fields-to-write b .keys)) in
-    then-numbered opening (then-numbered pairs (check-numbered 33 refl (then-numbered keys closing)))
+    check-numbered 24 refl (then-numbered pairs (check-numbered 33 refl (then-numbered keys closing)))
+
+body-numbered : (policy : Policy) (b : BodyToWrite) → Numbered (size-refusals policy) (writing-header-body-under policy b .checks)
+unfolding writing-header-body-under body-checks-under fields-to-write
+body-numbered policy b =
+    then-numbered (numbered-as (size-refusals policy) (none-more policy) (lead-numbered (b .version) (b .messageType) (b .suite)))
+    (then-numbered (policy-numbered policy (b .version)) (numbered-as (size-refusals policy) (none-more policy) (rest-numbered b)))
+
+never-28 : (policy : Policy) → has (size-refusals policy) 28 ≡ false
+unfolding size-refusals writing-policy-refusals
+never-28 no-policy = refl
+never-28 forbid-encrypt-allow-decrypt = refl
+never-28 require-encrypt-allow-decrypt = refl
+never-28 require-encrypt-require-decrypt = refl
 
 contents-numbered : (frame : ℕ) (ns : List ℕ) → Numbered frames-size-refusals (content-checks frame ns)
 unfolding frames-size-refusals content-checks
@@ -137,11 +177,11 @@ module _ (b : BodyToWrite) where
   by-mark form = writing-header-body (marked form b)
 
   same-checks : fields-to-write b .pairs ≡ [] → by-mark old .checks ≡ by-mark today .checks
-  unfolding writing-header-body fields-to-write body-checks
+  unfolding writing-header-body-under fields-to-write body-checks-under
   same-checks e = rw e refl
 
   two-more : fields-to-write b .pairs ≡ [] → length (by-mark old .image) ≡ length (by-mark today .image) + 2
-  unfolding writing-header-body fields-to-write
+  unfolding writing-header-body-under fields-to-write
   two-more e =
       let i = same-images (fields-to-write b) in
       let m : mark-by the-old (fields-to-write b .pairs) ≡ old = rw e refl in
@@ -162,18 +202,18 @@ module _ (b : BodyToWrite) where
   no-pairs (p ∷ ps) e = let z = is-eqb (length (p ∷ ps)) 0 e in absurd (omega (arith, z))
 
   with-a-pair : (fields-to-write b .pairs ≡ [] → ⊥) → (n : ℕ) → size-of (by-mark old) ≡ accepted tt n → ⊥
-  unfolding writing-header-body fields-to-write body-checks
+  unfolding writing-header-body-under fields-to-write body-checks-under
   with-a-pair h n e =
       let f = of-accepted (by-mark old .image) (first (by-mark old .checks)) n e .0 in
       let pairs = table-checks 4 (b .text) (b .pairTable) ++ pairs-checks (fields-to-write b .pairs) in
-      h (no-pairs _ (split pairs _ (holds (by-mark old .checks) f .1 .1 .1 .1 .1) .1 .0))
+      h (no-pairs _ (split pairs _ (holds (by-mark old .checks) f .1 .1 .1 .1 .1 .1) .1 .0))
 
 pub size-laws : SizeLaws
 unfolding size-refusals frames-size-refusals
 size-laws =
     record {
       of-writers = size-law;
-      of-body = λ b. given-by size-refusals refl (writing-header-body b) (body-numbered b);
+      of-body = λ policy b. given-by (size-refusals policy) (never-28 policy) (writing-header-body-under policy b) (body-numbered policy b);
       of-frames = λ frame text table. given-by frames-size-refusals refl (writing-frames frame text table) (frames-numbered frame text table);
       old-without-pairs = without-pairs;
       old-with-a-pair = with-a-pair;

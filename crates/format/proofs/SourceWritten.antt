@@ -11,8 +11,9 @@ use Rattle.format.specs.Read.{accepted, refused}
 use Rattle.format.specs.Serialize.{write-uint16, images, every}
 use Rattle.format.specs.Fields.{EncryptedDataKey, key-parts}
 use Rattle.format.specs.Keys.{write-encrypted-data-keys, write-encrypted-data-keys-section}
-use Rattle.format.specs.Checks.{first, each, count-checks, key-checks, keys-checks, form-checks, opening-checks, pairs-checks, body-checks}
-use Rattle.format.specs.Lent.{keys-in, table-checks, Writing, refusal-of, size-of, BodyToWrite, fields-to-write, writing-encrypted-data-keys-section, writing-header-body}
+use Rattle.format.specs.Policies.{no-policy}
+use Rattle.format.specs.Checks.{first, each, count-checks, key-checks, keys-checks, form-checks, opening-checks, pairs-checks, body-checks-under}
+use Rattle.format.specs.Lent.{keys-in, table-checks, Writing, refusal-of, size-of, BodyToWrite, fields-to-write, writing-encrypted-data-keys-section, writing-header-body-under, writing-header-body}
 use Rattle.format.specs.Source.{source-keys-checks, source-writing-encrypted-data-keys-section, source-writing-header-body}
 use Rattle.format.specs.SourceEquality.{WrittenAlike}
 use Rattle.format.proofs.Tests.{neqb-is}
@@ -42,12 +43,12 @@ unfolding writing-encrypted-data-keys-section source-writing-encrypted-data-keys
 keys-written text table h = alike _ _ (first-cong (table-checks 6 text table) _ _ (λ q. same-keys (keys-in text table) h)) refl
 
 pub body-written : (b : BodyToWrite) → (fields-to-write b .keys ≡ [] → ⊥) → WrittenAlike (writing-header-body b) (source-writing-header-body b)
-unfolding writing-header-body source-writing-header-body body-checks
+unfolding writing-header-body-under source-writing-header-body body-checks-under
 body-written b h =
     let f = fields-to-write b in
     let k₂₆ = table-checks 6 (b .text) (b .keyTable) in
     alike _ _
-    (first-cong (opening-checks (f .version) (f .messageType) (f .suite) (length (f .messageId))) _ _ λ q.
+    (first-cong (opening-checks no-policy (f .version) (f .messageType) (f .suite) (length (f .messageId))) _ _ λ q.
     first-cong (table-checks 4 (b .text) (b .pairTable) ++ pairs-checks (f .pairs)) _ _ λ q.
     first-cong (form-checks (b .form) (length (f .pairs))) _ _ λ q.
     first-front (k₂₆ ++ keys-checks (f .keys)) (k₂₆ ++ source-keys-checks (f .keys)) _ (first-cong k₂₆ _ _ λ q. same-keys (f .keys) h))

@@ -12,13 +12,14 @@ use Rattle.format.specs.Shared.{by}
 use Rattle.format.specs.Fields.{PairAt, HeaderBody}
 use Rattle.format.specs.Context.{Mode, tolerant, strict, read-next-aad-pair, read-aad-by, read-aad, read-aad-of, read-aad-section, mark, with-mark}
 use Rattle.format.specs.Keys.{Max}
-use Rattle.format.specs.Body.{Which, tests-frames, Opening, read-opening, Request, request, after-keys, after-context, after-opening, read-body, read-header-body, write-opening-of}
+use Rattle.format.specs.Policies.{Policy}
+use Rattle.format.specs.Body.{Which, tests-frames, Opening, read-opening, Request, request-under, after-keys, after-context, after-opening, read-body, read-header-body-under}
 use Rattle.format.specs.Lent.{bytes-at, table-after, pair-table-after, key-table-after, pair-numbers, key-numbers}
 use Rattle.format.specs.Demand3.{old-empty, reached-old, reaches-old, Sentence2}
 use Rattle.format.proofs.Tests.{is-eqb, eqb-is, neqb-is}
 use Rattle.format.proofs.Exact.{Took, held-fits, enclosed-fits, enclosed-short}
 use Rattle.format.proofs.Serialize.{read-short, two-bytes, length-uint16}
-use Rattle.format.proofs.Ends.{Top, TopOk, Rest, RestOk, top-bytes, top-at, v1-of, opening-exact}
+use Rattle.format.proofs.Ends.{Top, TopOk, top-bytes, top-at, v1-of, top-long, opening-exact}
 use Rattle.format.proofs.Messages.{accepted-took, rest-is, cases, operation-here, bytes-drop}
 
 too-short : (l : List ℕ) (s : ℕ) → length l < 2 → read-uint16 l s ≡ more-needed (s + 2)
@@ -163,35 +164,24 @@ answer-cond : {A : Type 0} (b : Bool) (k : ℕ) (x : ReadResult A) → answer (c
 answer-cond true k x = refl
 answer-cond false k x = refl
 
--- how long what stands before the context section is
-rest-length : (v1 : Bool) (r : Rest) → RestOk v1 r → length (write-opening-of v1 (r .messageType) (r .suite) (r .messageId)) ≡ cond v1 19 34
-unfolding write-opening-of
-rest-length true r o = rw (length-append (write-uint16 (r .suite)) (r .messageId), length-uint16, o .sized) refl
-rest-length false r o = rw (length-append (write-uint16 (r .suite)) (r .messageId), length-uint16, o .sized) refl
-
-one-more : (v1 : Bool) → suc (cond v1 19 34) ≡ cond v1 20 35
-one-more true = refl
-one-more false = refl
-
-module _ (which : Which) (m : List ℕ) (s : ℕ) (hb : Bytes m) where
+module _ (which : Which) (policy : Policy) (m : List ℕ) (s : ℕ) (hb : Bytes m) where
   -- the section that a body reader reaches
-  pub reached : (o : Opening) (t : ℕ) → operation (read-opening which) m s ≡ accepted o t → t ≡ s + by (o .version) 20 35
+  pub reached : (o : Opening) (t : ℕ) → operation (read-opening which policy) m s ≡ accepted o t → t ≡ s + by (o .version) 20 35
   reached o t e =
-      let (l, x) = accepted-took (opening-exact which) m s hb o t e in
+      let (l, x) = accepted-took (opening-exact which policy) m s hb o t e in
       let y : Top = x .value in
-      let d : length (top-bytes y) ≡ cond (v1-of y) 20 35 =
-      ap suc (rest-length (v1-of y) (record { messageType = y .messageType; suite = y .suite; messageId = y .messageId }) (x .good .rest)) ∙ one-more (v1-of y) in
+      let d : length (top-bytes y) ≡ cond (v1-of y) 20 35 = top-long (v1-of y) (y .version) (y .messageType) (y .suite) (y .messageId) (x .good .sized) in
       let v : o .version ≡ y .version = ap (λ z. z .version) (x .placed) in
       rw (v, ← d) (x .tail)
 
-  behind : (o : Opening) (l : List ℕ) (t : ℕ) → read-opening which (drop s m) s ≡ success o l t → l ≡ drop t m
+  behind : (o : Opening) (l : List ℕ) (t : ℕ) → read-opening which policy (drop s m) s ≡ success o l t → l ≡ drop t m
   behind o l t e =
-      let x = opening-exact which .sound (drop s m) s o l t (bytes-drop s m hb) e in
+      let x = opening-exact which policy .sound (drop s m) s o l t (bytes-drop s m hb) e in
       rest-is m s l (top-bytes (x .value)) t (x .split) (x .tail)
 
-module _ (which : Which) (max : Max) (pairRoom keyRoom : ℕ) (m : List ℕ) (s : ℕ) (hb : Bytes m) where
+module _ (policy : Policy) (which : Which) (max : Max) (pairRoom keyRoom : ℕ) (m : List ℕ) (s : ℕ) (hb : Bytes m) where
   abbrev asks : Mode → Request
-  asks mode = request which mode (tests-frames which) max pairRoom keyRoom
+  asks mode = request-under policy which mode (tests-frames which) max pairRoom keyRoom
 
   strict-after : (o : Opening) (l : List ℕ) (t : ℕ) → after-opening (asks strict) o l t ≡ cond (old-empty l) (error 21) (after-opening (asks tolerant) o l t)
   unfolding after-opening after-context after-keys with-mark _>>=_ Alike
@@ -200,34 +190,34 @@ module _ (which : Which) (max : Max) (pairRoom keyRoom : ℕ) (m : List ℕ) (s 
       ∙ ap (λ x. go-on x (after-context (asks tolerant) o)) (go-on-cond (old-empty l) 21 (read-aad-section tolerant l t) (mark t))
       ∙ go-on-cond (old-empty l) 21 (go-on (read-aad-section tolerant l t) (mark t)) (after-context (asks tolerant) o)
 
-  strict-reader : operation (read-header-body which strict max pairRoom keyRoom) m s
-      ≡ cond (reaches-old which m s) (refused 21 0) (operation (read-header-body which tolerant max pairRoom keyRoom) m s)
-  unfolding read-header-body reaches-old read-body _>>=_ operation at
+  strict-reader : operation (read-header-body-under policy which strict max pairRoom keyRoom) m s
+      ≡ cond (reaches-old policy which m s) (refused 21 0) (operation (read-header-body-under policy which tolerant max pairRoom keyRoom) m s)
+  unfolding read-header-body-under reaches-old read-body _>>=_ operation at
   strict-reader = go (leb (length m) 4294967295 && leb s 4294967295)
     where
-      in-body : (x : ReadResult Opening) → read-opening which (drop s m) s ≡ x → answer (go-on x (after-opening (asks strict)))
+      in-body : (x : ReadResult Opening) → read-opening which policy (drop s m) s ≡ x → answer (go-on x (after-opening (asks strict)))
           ≡ cond (reached-old m (answer x)) (refused 21 0) (answer (go-on x (after-opening (asks tolerant))))
       in-body (success o l t) e =
           ap answer (strict-after o l t) ∙ answer-cond (old-empty l) 21 (after-opening (asks tolerant) o l t)
-          ∙ ap (λ b. cond (old-empty b) (refused 21 0) (answer (after-opening (asks tolerant) o l t))) (behind which m s hb o l t e)
+          ∙ ap (λ b. cond (old-empty b) (refused 21 0) (answer (after-opening (asks tolerant) o l t))) (behind which policy m s hb o l t e)
       in-body (more-needed p) e = refl
       in-body (error k) e = refl
 
       go : (b : Bool) → elim b as (λ x. Answer HeaderBody) [ true ↦ answer (read-body (asks strict) (drop s m) s) | false ↦ refused 1 0 ]
-          ≡ cond {A = Answer HeaderBody} (reached-old m (elim b as (λ x. Answer Opening) [ true ↦ answer (read-opening which (drop s m) s) | false ↦ refused 1 0 ])) (refused 21 0)
+          ≡ cond {A = Answer HeaderBody} (reached-old m (elim b as (λ x. Answer Opening) [ true ↦ answer (read-opening which policy (drop s m) s) | false ↦ refused 1 0 ])) (refused 21 0)
           (elim b as (λ x. Answer HeaderBody) [ true ↦ answer (read-body (asks tolerant) (drop s m) s) | false ↦ refused 1 0 ])
-      go true = in-body (read-opening which (drop s m) s) refl
+      go true = in-body (read-opening which policy (drop s m) s) refl
       go false = refl
 
   same-table : (numbers : HeaderBody → List ℕ) (b : Bool) (a : Answer HeaderBody) (table : List ℕ) → table-after numbers (cond b (refused 21 0) a) table ≡ cond b table (table-after numbers a table)
   same-table numbers true a table = refl
   same-table numbers false a table = refl
 
-  pub sentence-2 : Sentence2 which max pairRoom keyRoom m s
+  pub sentence-2 : Sentence2 policy which max pairRoom keyRoom m s
   sentence-2 =
       record {
         answers = strict-reader;
-        pair-table = λ table. ap (λ a. pair-table-after a table) strict-reader ∙ same-table (λ b. pair-numbers (b .pairs)) (reaches-old which m s) _ table;
-        key-table = λ table. ap (λ a. key-table-after a table) strict-reader ∙ same-table (λ b. key-numbers (b .keys)) (reaches-old which m s) _ table;
-        reached = reached which m s hb;
+        pair-table = λ table. ap (λ a. pair-table-after a table) strict-reader ∙ same-table (λ b. pair-numbers (b .pairs)) (reaches-old policy which m s) _ table;
+        key-table = λ table. ap (λ a. key-table-after a table) strict-reader ∙ same-table (λ b. key-numbers (b .keys)) (reaches-old policy which m s) _ table;
+        reached = reached which policy m s hb;
       }

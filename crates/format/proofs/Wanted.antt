@@ -1,6 +1,6 @@
 -- A reader wants at most 65,535 bytes at once, so what it wants lies near behind the message's end. Assumes nothing.
 use mathlib.Core.Path.{_≡_, refl, sym, _∙_}
-use mathlib.Core.Bool.{Bool, true, false}
+use mathlib.Core.Bool.{cond, Bool, true, false}
 use mathlib.Core.List.{List, [], _∷_}
 use Prim.Native.Nat.{ℕ, _+_, _-_, _≤_, _<_}
 use native.Mathlib.Omega.{arith}
@@ -13,7 +13,8 @@ use Rattle.format.specs.Fields.{PairAt}
 use Rattle.format.specs.Context.{Mode, tolerant, read-text, read-aad-pair, read-next-aad-pair, read-aad-by, read-aad, read-aad-of, read-aad-section, ContextAt, mark, with-mark, read-aad-section-into, look-up, find-value}
 use Rattle.format.specs.OnlyAuthenticated.{fitting, write-only-authenticated}
 use Rattle.format.specs.Keys.{Max, read-encrypted-data-key, read-encrypted-data-keys-of, read-encrypted-data-keys-section, read-encrypted-data-keys-section-into}
-use Rattle.format.specs.Body.{Which, read-opening-of, read-opening, read-closing-of, read-closing, Opening, Request, after-keys, after-context, after-opening, read-body}
+use Rattle.format.specs.Policies.{Policy}
+use Rattle.format.specs.Body.{Which, read-lead-of, read-lead, after-lead, read-opening, read-closing-of, read-closing, Opening, Request, after-keys, after-context, after-opening, read-body}
 use Rattle.format.specs.Auth.{read-header-auth-tag-of, read-header-auth-tag}
 use Rattle.format.specs.Refusals.{WantsWithin, Nearness}
 use Rattle.format.proofs.Frames.{frames-into-wants}
@@ -91,19 +92,26 @@ suite-wants : (version : ℕ) → Header Any (read-esdk-suite-id version)
 unfolding read-esdk-suite-id
 suite-wants version = bind-wants uint16-wants (λ x g. then-wants (test-wants 6 _) (then-wants (test-wants 7 _) (return-wants _)))
 
-rest-wants : (v1 : Bool) → Header Any (read-opening-of v1)
-unfolding read-opening-of
-rest-wants true =
-    bind-wants uint8-wants (λ t g. then-wants (test-wants 5 _) (bind-wants (suite-wants 1) (λ x g. bind-wants (read-wants (id-length 1) (omega arith)) (λ id g. return-wants _))))
-rest-wants false = bind-wants (suite-wants 2) (λ x g. bind-wants (read-wants (id-length 2) (omega arith)) (λ id g. return-wants _))
+rest-wants : (v1 : Bool) → Header Any (read-lead-of v1)
+unfolding read-lead-of
+rest-wants true = bind-wants uint8-wants (λ t g. then-wants (test-wants 5 _) (bind-wants (suite-wants 1) (λ x g. return-wants _)))
+rest-wants false = bind-wants (suite-wants 2) (λ x g. return-wants _)
 
 version-wants : Header Any read-message-format-version
 unfolding read-message-format-version
 version-wants = bind-wants uint8-wants (λ v g. then-wants (test-wants 3 _) (return-wants _))
 
-pub opening-wants : (which : Which) → Header Any (read-opening which)
-unfolding read-opening
-opening-wants which = bind-wants version-wants (λ v g. then-wants (test-wants 4 _) (rest-wants (eqb v 1)))
+lead-wants : (which : Which) → Header Any (read-lead which)
+unfolding read-lead
+lead-wants which = bind-wants version-wants (λ v g. then-wants (test-wants 4 _) (rest-wants (eqb v 1)))
+
+one-of : (b : Bool) (x y n : ℕ) → x < n → y < n → cond b x y < n
+one-of true x y n h k = h
+one-of false x y n h k = k
+
+pub opening-wants : (which : Which) (policy : Policy) → Header Any (read-opening which policy)
+unfolding read-opening after-lead
+opening-wants which policy = bind-wants (lead-wants which) (λ l g. then-wants (test-wants 39 _) (bind-wants (read-wants (id-length (l .version)) (one-of (eqb (l .version) 1) _ _ 65536 (omega arith) (omega arith))) (λ id g. return-wants _)))
 
 content-wants : Header Any read-content-type
 unfolding read-content-type
@@ -131,7 +139,7 @@ marked-wants {section} h = record { near = λ l s hb. goes-on {b = 65536} Any An
 
 body-wants : (q : Request) → Header Any (read-body q)
 unfolding read-body after-opening
-body-wants q = bind-wants (opening-wants (q .which)) (λ o g. bind-wants (marked-wants (section-wants (q .mode))) (λ x g. after-context-wants q o x))
+body-wants q = bind-wants (opening-wants (q .which) (q .policy)) (λ o g. bind-wants (marked-wants (section-wants (q .mode))) (λ x g. after-context-wants q o x))
 
 -- an authentication record
 auth-of-wants : (v1 : Bool) → Header Any (read-header-auth-tag-of v1)

@@ -12,8 +12,9 @@ use Rattle.format.specs.Serialize.{Bytes, write-uint16, images, every}
 use Rattle.format.specs.Fields.{Form, EncryptedDataKey, Fields, HeaderBody}
 use Rattle.format.specs.Context.{Mode, tolerant}
 use Rattle.format.specs.Keys.{Max, write-encrypted-data-key, write-encrypted-data-keys, write-encrypted-data-keys-section, read-encrypted-data-keys-section, read-encrypted-data-keys-section-into}
-use Rattle.format.specs.Body.{Which, either, tests-frames, request, after-context, after-opening, read-body, read-header-body, image}
-use Rattle.format.specs.Checks.{first, each, opening-checks, closing-checks, pairs-checks, keys-checks, form-checks, body-checks, Accepts}
+use Rattle.format.specs.Policies.{no-policy}
+use Rattle.format.specs.Body.{Which, either, tests-frames, request, after-context, after-opening, read-body, read-header-body-under, read-header-body, image}
+use Rattle.format.specs.Checks.{first, each, opening-checks, closing-checks, pairs-checks, keys-checks, form-checks, body-checks-under, body-checks, Accepts}
 use Rattle.format.specs.Demand3.{Writer, mark-by, image-by, without-keys, NoKeys}
 use Rattle.format.proofs.Tests.{never}
 use Rattle.format.proofs.Exact.{length-puts}
@@ -37,7 +38,7 @@ no-writer form f e a = there-is-one (f .keys) (good form f a .keys) (ap length e
 
 no-reader : (which : Which) (mode : Mode) (max : Max) (pairRoom keyRoom : ℕ) (m : List ℕ) (s : ℕ) → Bytes m
     → (b : HeaderBody) (t : ℕ) → operation (read-header-body which mode max pairRoom keyRoom) m s ≡ accepted b t → b .keys ≡ [] → ⊥
-unfolding read-header-body
+unfolding read-header-body-under
 no-reader which mode max pairRoom keyRoom m s hb b t e none-there =
     let q = request which mode (tests-frames which) max pairRoom keyRoom in
     let (l, x) = accepted-took (body-exact q) m s hb b t e in
@@ -52,10 +53,10 @@ unfolding first keys-checks images every each
 no-keys-38 = refl
 
 writer-says : (w : Writer) (f : Fields) → Accepts (mark-by w (f .pairs)) f → first (body-checks [] [] (mark-by w (f .pairs)) (without-keys f)) ≡ some 38
-unfolding body-checks
+unfolding body-checks-under
 writer-says w f a =
     let form = mark-by w (f .pairs) in
-    let opens = opening-checks (f .version) (f .messageType) (f .suite) (length (f .messageId)) in
+    let opens = opening-checks no-policy (f .version) (f .messageType) (f .suite) (length (f .messageId)) in
     let pairs = pairs-checks (f .pairs) in
     let fits = form-checks form (length (f .pairs)) in
     let closes = closing-checks (f .version) (f .contentType) (f .headerIvLength) (length (f .suiteData)) (f .frameLength) in
@@ -74,7 +75,7 @@ section-38 max l s = rw (two-bytes 0 0 l s) refl
 
 reader-says : (w : Writer) (f : Fields) → Accepts (mark-by w (f .pairs)) f → (max : Max) (pairRoom keyRoom : ℕ) (m : List ℕ) (s : ℕ) (after : List ℕ)
     → length m ≤ 4294967295 → drop s m ≡ image-by w (without-keys f) ++ after → operation (read-header-body either tolerant max pairRoom keyRoom) m s ≡ refused 38 0
-unfolding read-header-body read-body after-opening after-context image _>>=_
+unfolding read-header-body-under read-body after-opening after-context image _>>=_
 reader-says w f a max pairRoom keyRoom m s after fits e =
     let form = mark-by w (f .pairs) in
     let q = request either tolerant true max pairRoom keyRoom in
@@ -91,7 +92,7 @@ reader-says w f a max pairRoom keyRoom m s after fits e =
     operation-here (read-body q) m s fits near
     ∙ rw (
       apart,
-      opening-exact either .complete (top-of f) s (context-bytes c ++ (keys ++ (closing ++ after))) (g .top),
+      opening-exact either no-policy .complete (top-of f) s (context-bytes c ++ (keys ++ (closing ++ after))) (g .top),
       marked-exact tolerant .complete c (s + length top) (keys ++ (closing ++ after)) o,
       section-38 max (closing ++ after) (s + length top + length (context-bytes c)),
     )

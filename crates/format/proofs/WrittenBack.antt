@@ -11,7 +11,7 @@ use lib.Seq.{drop-drop, take-append-seam}
 use Rattle.format.specs.Read.{accepted}
 use Rattle.format.specs.Serialize.{Part, images, every}
 use Rattle.format.specs.Fields.{PairAt, EncryptedDataKeyAt, HeaderBody, pair-of, key-of, fields-of, pair-places, key-places}
-use Rattle.format.specs.Body.{either, Request, request, read-header-body, image}
+use Rattle.format.specs.Body.{either, Request, request, read-header-body-under, image}
 use Rattle.format.specs.Checks.{first}
 use Rattle.format.specs.Lent.{bytes-at, filled, place, pair-numbers, key-numbers, items, here, in-text, pairs-in, keys-in, table-checks, BodyToWrite, fields-to-write, writing-header-body, written, output-after}
 use Rattle.format.specs.Demand3.{Held, Each, HeldBody}
@@ -107,7 +107,7 @@ module _ (m : List ℕ) (s : ℕ) (v : Sent) (q : Request) (tests : q .frames �
       (rw i fits))
 
 pub written-back : WrittenBack
-unfolding read-header-body
+unfolding read-header-body-under
 written-back =
     record {
       exactly = λ mode max pairRoom keyRoom m s hb b t e.

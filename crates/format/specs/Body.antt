@@ -10,6 +10,7 @@ use Rattle.format.specs.Shared.{id-length, iv-length, commit-key-length,
 use Rattle.format.specs.Fields.{Form, EncryptedDataKeyAt, Fields, HeaderBody}
 use Rattle.format.specs.Context.{Mode, tolerant, strict, ContextAt, section-in, read-aad-section, with-mark}
 use Rattle.format.specs.Keys.{Max, write-encrypted-data-keys-section, read-encrypted-data-keys-section}
+use Rattle.format.specs.Policies.{Policy, no-policy, lets-read}
 
 -- which version a reader is asked for
 pub data Which : Type 0 where
@@ -20,6 +21,30 @@ asked either version = true
 asked v1-only version = eqb version 1
 asked v2-only version = eqb version 2
 
+-- the leading fields: what stands before the message ID
+pub record Lead : Type 0 where
+  pub version : ℕ
+  pub messageType : ℕ
+  pub suite : ℕ
+
+-- after the version byte; true: version 1, whose type byte is 80
+unfoldable pub read-lead-of : Bool → Reader Lead
+read-lead-of true = do
+  messageType ← read-uint8
+  test 5 (eqb messageType 0x80)
+  suite ← read-esdk-suite-id 1
+  return (record { version = 1; messageType = messageType; suite = suite })
+read-lead-of false = do
+  suite ← read-esdk-suite-id 2
+  return (record { version = 2; messageType = 0; suite = suite })
+
+-- up to 7
+unfoldable pub read-lead : Which → Reader Lead
+read-lead which = do
+  version ← read-message-format-version
+  test 4 (asked which version)
+  read-lead-of (eqb version 1)
+
 -- what stands before the context section
 pub record Opening : Type 0 where
   pub version : ℕ
@@ -27,24 +52,15 @@ pub record Opening : Type 0 where
   pub suite : ℕ
   pub messageId : Part
 
--- after the version byte; true: version 1, whose type byte is 80
-unfoldable pub read-opening-of : Bool → Reader Opening
-read-opening-of true = do
-  messageType ← read-uint8
-  test 5 (eqb messageType 0x80)
-  suite ← read-esdk-suite-id 1
-  messageId ← read (id-length 1)
-  return (record { version = 1; messageType = messageType; suite = suite; messageId = messageId })
-read-opening-of false = do
-  suite ← read-esdk-suite-id 2
-  messageId ← read (id-length 2)
-  return (record { version = 2; messageType = 0; suite = suite; messageId = messageId })
+-- 39: the policy forbids the suite, which is of the version
+unfoldable pub after-lead : Policy → Lead → Reader Opening
+after-lead policy l = do
+  test 39 (lets-read policy (l .version))
+  messageId ← read (id-length (l .version))
+  return (record { version = l .version; messageType = l .messageType; suite = l .suite; messageId = messageId })
 
-unfoldable pub read-opening : Which → Reader Opening
-read-opening which = do
-  version ← read-message-format-version
-  test 4 (asked which version)
-  read-opening-of (eqb version 1)
+unfoldable pub read-opening : Which → Policy → Reader Opening
+read-opening which policy = read-lead which >>= after-lead policy
 
 -- what stands behind the key section
 pub record Closing : Type 0 where
@@ -88,9 +104,10 @@ whole o x ks c =
       suiteData = c .suiteData;
     }
 
--- what a body reader is asked: the version, the mode, the key maximum, how many numbers its tables hold; and whether it tests 20
+-- what a body reader is asked: the version, the policy, the mode, the key maximum, how many numbers its tables hold; and whether it tests 20
 pub record Request : Type 0 where
   pub which : Which
+  pub policy : Policy
   pub mode : Mode
   pub max : Max
   pub pairRoom : ℕ
@@ -113,7 +130,7 @@ after-opening q o = with-mark (read-aad-section (q .mode)) >>= after-context q o
 
 -- ReadHeaderBody, ReadV1HeaderBody, ReadV2HeaderBody
 unfoldable pub read-body : Request → Reader HeaderBody
-read-body q = read-opening (q .which) >>= after-opening q
+read-body q = read-opening (q .which) (q .policy) >>= after-opening q
 
 -- only the either-version reader tests 20
 abbrev pub tests-frames : Which → Bool
@@ -121,17 +138,27 @@ tests-frames either = true
 tests-frames v1-only = false
 tests-frames v2-only = false
 
-abbrev pub request : Which → Mode → Bool → Max → ℕ → ℕ → Request
-request which mode frames max pairRoom keyRoom =
-    record { which = which; mode = mode; max = max; pairRoom = pairRoom; keyRoom = keyRoom; frames = frames }
+abbrev pub request-under : Policy → Which → Mode → Bool → Max → ℕ → ℕ → Request
+request-under policy which mode frames max pairRoom keyRoom =
+    record { which = which; policy = policy; mode = mode; max = max; pairRoom = pairRoom; keyRoom = keyRoom; frames = frames }
 
--- the operation, in the mode and of the version asked for
-unfoldable pub read-header-body : Which → Mode → Max → ℕ → ℕ → Reader HeaderBody
-read-header-body which mode max pairRoom keyRoom = read-body (request which mode (tests-frames which) max pairRoom keyRoom)
+-- the operation, under the policy, in the mode and of the version asked for
+unfoldable pub read-header-body-under : Policy → Which → Mode → Max → ℕ → ℕ → Reader HeaderBody
+read-header-body-under policy which mode max pairRoom keyRoom = read-body (request-under policy which mode (tests-frames which) max pairRoom keyRoom)
 
 -- the either-version reader with 20 left untested
-unfoldable pub read-header-body-untested : Mode → Max → ℕ → ℕ → Reader HeaderBody
-read-header-body-untested mode max pairRoom keyRoom = read-body (request either mode false max pairRoom keyRoom)
+unfoldable pub read-header-body-untested-under : Policy → Mode → Max → ℕ → ℕ → Reader HeaderBody
+read-header-body-untested-under policy mode max pairRoom keyRoom = read-body (request-under policy either mode false max pairRoom keyRoom)
+
+-- and each without a policy
+abbrev pub request : Which → Mode → Bool → Max → ℕ → ℕ → Request
+request = request-under no-policy
+
+abbrev pub read-header-body : Which → Mode → Max → ℕ → ℕ → Reader HeaderBody
+read-header-body = read-header-body-under no-policy
+
+abbrev pub read-header-body-untested : Mode → Max → ℕ → ℕ → Reader HeaderBody
+read-header-body-untested = read-header-body-untested-under no-policy
 
 -- before the context section, after the version byte; true: version 1
 unfoldable pub write-opening-of : Bool → ℕ → ℕ → List ℕ → List ℕ

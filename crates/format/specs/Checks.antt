@@ -12,6 +12,7 @@ use Rattle.format.specs.Shared.{by, one-or-two, known, of-version, id-le
 use Rattle.format.specs.Fields.{Form, today, old, Pair, EncryptedDataKey, Fields, pair-parts, key-parts}
 use Rattle.format.specs.Context.{seen, linear-length, pairs-limit}
 use Rattle.format.specs.Frames.{Frame}
+use Rattle.format.specs.Policies.{Policy, no-policy, lets-write}
 
 -- a refusal's number, and the test that it answers for
 pub record Check : Type 0 where
@@ -62,15 +63,22 @@ fits-form old pairs = eqb pairs 0
 abbrev pub form-checks : Form → ℕ → List Check
 form-checks form pairs = check 33 (fits-form form pairs) ∷ []
 
--- write a body: what stands before the pairs', by the ID's length
-abbrev pub opening-checks : ℕ → ℕ → ℕ → ℕ → List Check
-opening-checks version messageType suite id =
+-- write a body: what stands before the ID's length, up to 7
+abbrev pub lead-checks : ℕ → ℕ → ℕ → List Check
+lead-checks version messageType suite =
     check 3 (one-or-two version)
     ∷ check 5 (eqb messageType (by version 0x80 0))
     ∷ check 6 (known suite)
     ∷ check 7 (of-version version suite)
-    ∷ check 24 (eqb id (id-length version))
     ∷ []
+
+-- and before the pairs', by the ID's length
+abbrev pub opening-checks : Policy → ℕ → ℕ → ℕ → ℕ → List Check
+opening-checks policy version messageType suite id =
+    lead-checks version messageType suite
+    ++ (check 39 (lets-write policy version)
+    ∷ check 24 (eqb id (id-length version))
+    ∷ [])
 
 -- and behind the keys', by the suite data's length
 abbrev pub closing-checks : ℕ → ℕ → ℕ → ℕ → ℕ → List Check
@@ -82,17 +90,21 @@ closing-checks version content iv suiteData frame =
     ∷ []
 
 -- the refusals of a body write, by those of its pairs and of its keys
-abbrev pub body-checks-of : List Check → List Check → Form → Fields → List Check
-body-checks-of of-pairs of-keys form f =
-    opening-checks (f .version) (f .messageType) (f .suite) (length (f .messageId))
+abbrev pub body-checks-of : Policy → List Check → List Check → Form → Fields → List Check
+body-checks-of policy of-pairs of-keys form f =
+    opening-checks policy (f .version) (f .messageType) (f .suite) (length (f .messageId))
     ++ (of-pairs
     ++ (form-checks form (length (f .pairs))
     ++ (of-keys
     ++ closing-checks (f .version) (f .contentType) (f .headerIvLength) (length (f .suiteData)) (f .frameLength))))
 
 -- with checks in front of the pairs' and of the keys', which are the places of 26
-unfoldable pub body-checks : List Check → List Check → Form → Fields → List Check
-body-checks pairs-first keys-first form f = body-checks-of (pairs-first ++ pairs-checks (f .pairs)) (keys-first ++ keys-checks (f .keys)) form f
+unfoldable pub body-checks-under : Policy → List Check → List Check → Form → Fields → List Check
+body-checks-under policy pairs-first keys-first form f = body-checks-of policy (pairs-first ++ pairs-checks (f .pairs)) (keys-first ++ keys-checks (f .keys)) form f
+
+-- without a policy
+abbrev pub body-checks : List Check → List Check → Form → Fields → List Check
+body-checks = body-checks-under no-policy
 
 -- 19 and 30, by the lengths of an IV and a tag
 abbrev pub sealed-checks : ℕ → ℕ → List Check

@@ -11,7 +11,8 @@ use Rattle.format.specs.Shared.{by}
 use Rattle.format.specs.Fields.{Form, today, old, Pair, PairAt, Fields, HeaderBody, fields-of, pair-places, key-places}
 use Rattle.format.specs.Context.{Mode, tolerant, strict, read-aad-section, find-value}
 use Rattle.format.specs.Keys.{Max, within, read-encrypted-data-keys-section-into}
-use Rattle.format.specs.Body.{Which, either, v1-only, v2-only, Opening, read-opening, request, read-header-body, read-header-body-untested, image}
+use Rattle.format.specs.Policies.{Policy, no-policy}
+use Rattle.format.specs.Body.{Which, either, v1-only, v2-only, Opening, read-opening, request-under, request, read-header-body-under, read-header-body-untested-under, read-header-body, image}
 use Rattle.format.specs.Checks.{Accepts, first, keys-checks, body-checks}
 use Rattle.format.specs.First.{FirstApplies, operation-list, FirstRefusal, body-list}
 use Rattle.format.specs.Places.{body-here, body-end}
@@ -70,8 +71,8 @@ abbrev pub reached-old : List ℕ → Answer Opening → Bool
 reached-old m (accepted o t) = old-empty (drop t m)
 reached-old m (refused k p) = false
 
-unfoldable pub reaches-old : Which → List ℕ → ℕ → Bool
-reaches-old which m s = reached-old m (operation (read-opening which) m s)
+unfoldable pub reaches-old : Policy → Which → List ℕ → ℕ → Bool
+reaches-old policy which m s = reached-old m (operation (read-opening which policy) m s)
 
 -- the byte x stands at s
 abbrev pub stands-at : ℕ → List ℕ → ℕ → Bool
@@ -96,32 +97,32 @@ pub record Sentence1 (max : Max) (pairRoom keyRoom : ℕ) (m : List ℕ) (s : �
 
 -- SENTENCE 2. On every message, with the same start, tables and maximum, the strict reader answers as the tolerant one, alike in
 -- number, position, fields with their places, mark, tail and tables afterwards, except that it refuses 21 where the context section
--- it reaches is 00 02 00 00. (It holds of the readers of one version too.)
-pub record Sentence2 (which : Which) (max : Max) (pairRoom keyRoom : ℕ) (m : List ℕ) (s : ℕ) : Type 0 where
-  pub answers : operation (read-header-body which strict max pairRoom keyRoom) m s
-      ≡ cond (reaches-old which m s) (refused 21 0) (operation (read-header-body which tolerant max pairRoom keyRoom) m s)
-  pub pair-table : (table : List ℕ) → pair-table-after (operation (read-header-body which strict max pairRoom keyRoom) m s) table
-      ≡ cond (reaches-old which m s) table (pair-table-after (operation (read-header-body which tolerant max pairRoom keyRoom) m s) table)
-  pub key-table : (table : List ℕ) → key-table-after (operation (read-header-body which strict max pairRoom keyRoom) m s) table
-      ≡ cond (reaches-old which m s) table (key-table-after (operation (read-header-body which tolerant max pairRoom keyRoom) m s) table)
+-- it reaches is 00 02 00 00. (It holds of the readers of one version too, and under any policy; demand 3 is without one.)
+pub record Sentence2 (policy : Policy) (which : Which) (max : Max) (pairRoom keyRoom : ℕ) (m : List ℕ) (s : ℕ) : Type 0 where
+  pub answers : operation (read-header-body-under policy which strict max pairRoom keyRoom) m s
+      ≡ cond (reaches-old policy which m s) (refused 21 0) (operation (read-header-body-under policy which tolerant max pairRoom keyRoom) m s)
+  pub pair-table : (table : List ℕ) → pair-table-after (operation (read-header-body-under policy which strict max pairRoom keyRoom) m s) table
+      ≡ cond (reaches-old policy which m s) table (pair-table-after (operation (read-header-body-under policy which tolerant max pairRoom keyRoom) m s) table)
+  pub key-table : (table : List ℕ) → key-table-after (operation (read-header-body-under policy which strict max pairRoom keyRoom) m s) table
+      ≡ cond (reaches-old policy which m s) table (key-table-after (operation (read-header-body-under policy which tolerant max pairRoom keyRoom) m s) table)
   -- the section that is reached stands 20 or 35 bytes after the start, by version
-  pub reached : (o : Opening) (t : ℕ) → operation (read-opening which) m s ≡ accepted o t → t ≡ s + by (o .version) 20 35
+  pub reached : (o : Opening) (t : ℕ) → operation (read-opening which policy) m s ≡ accepted o t → t ≡ s + by (o .version) 20 35
 
 -- SENTENCE 3. In a message of at most that length, a reader of one version refuses 4 where the other version's byte stands at the
 -- start, whatever follows; in every other case it answers, with the same start, tables and maximum, as the tolerant one would with
--- 20 left untested. (And in the strict mode as the strict one would.)
-pub record Sentence3 (mode : Mode) (max : Max) (pairRoom keyRoom : ℕ) (m : List ℕ) (s : ℕ) : Type 0 where
-  pub version-1 : operation (read-header-body v1-only mode max pairRoom keyRoom) m s
-      ≡ cond (stands-at 2 m s) (refused 4 0) (operation (read-header-body-untested mode max pairRoom keyRoom) m s)
-  pub version-2 : operation (read-header-body v2-only mode max pairRoom keyRoom) m s
-      ≡ cond (stands-at 1 m s) (refused 4 0) (operation (read-header-body-untested mode max pairRoom keyRoom) m s)
+-- 20 left untested. (And in the strict mode as the strict one would; and under any policy.)
+pub record Sentence3 (policy : Policy) (mode : Mode) (max : Max) (pairRoom keyRoom : ℕ) (m : List ℕ) (s : ℕ) : Type 0 where
+  pub version-1 : operation (read-header-body-under policy v1-only mode max pairRoom keyRoom) m s
+      ≡ cond (stands-at 2 m s) (refused 4 0) (operation (read-header-body-untested-under policy mode max pairRoom keyRoom) m s)
+  pub version-2 : operation (read-header-body-under policy v2-only mode max pairRoom keyRoom) m s
+      ≡ cond (stands-at 1 m s) (refused 4 0) (operation (read-header-body-untested-under policy mode max pairRoom keyRoom) m s)
   -- with 20 left untested: by the list in which that line never applies
-  pub untested : FirstRefusal (read-header-body-untested mode max pairRoom keyRoom) (body-list (request either mode false max pairRoom keyRoom)) body-here body-end m s
+  pub untested : FirstRefusal (read-header-body-untested-under policy mode max pairRoom keyRoom) (body-list (request-under policy either mode false max pairRoom keyRoom)) body-here body-end m s
 
 -- THE MARK, of whichever version and mode is asked for: a body is marked old just where the context section that was reached is
 -- 00 02 00 00. So one with a pair is marked today's, and the strict reader never marks old.
 pub record Marks (which : Which) (mode : Mode) (m : List ℕ) (s : ℕ) (b : HeaderBody) : Type 0 where
-  pub by-the-section : b .form ≡ cond (reaches-old which m s) old today
+  pub by-the-section : b .form ≡ cond (reaches-old no-policy which m s) old today
   pub with-a-pair : (b .pairs ≡ [] → ⊥) → b .form ≡ today
   pub strictly : mode ≡ strict → b .form ≡ today
 
@@ -204,8 +205,8 @@ pub record Finds (k m : List ℕ) (s : ℕ) : Type 0 where
 -- DEMAND 3, whole
 pub record Demand3 : Type 0 where
   pub sentence-1 : (max : Max) (pairRoom keyRoom : ℕ) (m : List ℕ) (s : ℕ) → Bytes m → Sentence1 max pairRoom keyRoom m s
-  pub sentence-2 : (which : Which) (max : Max) (pairRoom keyRoom : ℕ) (m : List ℕ) (s : ℕ) → Bytes m → Sentence2 which max pairRoom keyRoom m s
-  pub sentence-3 : (mode : Mode) (max : Max) (pairRoom keyRoom : ℕ) (m : List ℕ) (s : ℕ) → length m ≤ 4294967295 → Sentence3 mode max pairRoom keyRoom m s
+  pub sentence-2 : (which : Which) (max : Max) (pairRoom keyRoom : ℕ) (m : List ℕ) (s : ℕ) → Bytes m → Sentence2 no-policy which max pairRoom keyRoom m s
+  pub sentence-3 : (mode : Mode) (max : Max) (pairRoom keyRoom : ℕ) (m : List ℕ) (s : ℕ) → length m ≤ 4294967295 → Sentence3 no-policy mode max pairRoom keyRoom m s
   pub marks : (which : Which) (mode : Mode) (max : Max) (pairRoom keyRoom : ℕ) (m : List ℕ) (s : ℕ) → Bytes m
       → (b : HeaderBody) (t : ℕ) → operation (read-header-body which mode max pairRoom keyRoom) m s ≡ accepted b t → Marks which mode m s b
   pub sentence-4 : (w : BodyToWrite) (out : List ℕ) → Sentence4 w out

@@ -14,6 +14,7 @@ use Rattle.format.specs.Shared.{by, one-or-two, known, of-version, suite
 use Rattle.format.specs.Fields.{PairAt, pair-of}
 use Rattle.format.specs.Context.{Mode, tolerant, is-strict, seen, read-aad-section-into, find-value}
 use Rattle.format.specs.Keys.{Max, within, read-encrypted-data-keys-section-into}
+use Rattle.format.specs.Policies.{Policy, lets-read}
 use Rattle.format.specs.Body.{Which, asked, Request, read-body}
 use Rattle.format.specs.Auth.{read-header-auth-tag}
 use Rattle.format.specs.Frames.{FrameAt, next-number, read-frames-into}
@@ -118,32 +119,40 @@ keys-list max m s =
     ∷ unless 15 (within count max)
     ∷ each-list (λ done. key-list) key-here key-end count [] m (s + 2))
 
--- What stands before a body's context section, behind the version byte; true: version 1
-unfoldable pub opening-list-of : Bool → List ℕ → ℕ → List Line
-opening-list-of true m s =
+-- A body's leading fields, behind the version byte; true: version 1
+unfoldable pub lead-list-of : Bool → List ℕ → ℕ → List Line
+lead-list-of true m s =
     let suite = number16 m (s + 1) in
     (lacks 1 m s
     ∷ unless 5 (eqb (number8 m s) 0x80)
     ∷ lacks 2 m (s + 1)
     ∷ unless 6 (known suite)
     ∷ unless 7 (of-version 1 suite)
-    ∷ lacks 16 m (s + 1 + 2)
     ∷ [])
-opening-list-of false m s =
+lead-list-of false m s =
     let suite = number16 m s in
     (lacks 2 m s
     ∷ unless 6 (known suite)
     ∷ unless 7 (of-version 2 suite)
-    ∷ lacks 32 m (s + 2)
     ∷ [])
 
-unfoldable pub opening-list : Which → List ℕ → ℕ → List Line
-opening-list which m s =
+-- up to 7
+unfoldable pub lead-list : Which → List ℕ → ℕ → List Line
+lead-list which m s =
     let version = number8 m s in
     (lacks 1 m s
     ∷ unless 3 (one-or-two version)
     ∷ unless 4 (asked which version)
-    ∷ opening-list-of (eqb version 1) m (s + 1))
+    ∷ lead-list-of (eqb version 1) m (s + 1))
+
+-- What stands before its context section
+unfoldable pub opening-list : Which → Policy → List ℕ → ℕ → List Line
+opening-list which policy m s =
+    let version = number8 m s in
+    (lead-list which m s
+    ++ (unless 39 (lets-read policy version)
+    ∷ lacks (by version 16 32) m (s + by version 4 3)
+    ∷ []))
 
 -- What stands behind a body's key section; true: version 1
 unfoldable pub closing-list-of : Bool → List ℕ → ℕ → List Line
@@ -171,7 +180,7 @@ body-list q m s =
     let edks = entry-end m aad in
     let closing = section-keys-end m edks in
     let v1 = eqb version 1 in
-    (opening-list (q .which) m s
+    (opening-list (q .which) (q .policy) m s
     ++ (context-list (q .mode) m aad
     ++ (keys-list (q .max) m edks
     ++ (closing-list v1 m closing

@@ -12,6 +12,7 @@ use Rattle.format.specs.Fields.{Form, Pair, PairAt, pair-of, pair-parts,
 use Rattle.format.specs.Context.{linear-length, Mode, read-aad-pair, read-aad-section-into}
 use Rattle.format.specs.Source.{source-read-next-aad-pair}
 use Rattle.format.specs.Keys.{Max}
+use Rattle.format.specs.Policies.{Policy}
 use Rattle.format.specs.Body.{Which, Opening, read-opening, read-header-body}
 use Rattle.format.specs.Auth.{HeaderAuth, read-header-auth-tag}
 use Rattle.format.specs.Checks.{first, each, count-checks, pair-checks, pairs-checks, auth-checks, Accepts}
@@ -51,7 +52,7 @@ pub record Lengths : Type 0 where
   pub pairs-not-written : (ps : List Pair) → first (count-checks (length ps) (images pair-parts ps) ++ each pair-checks [] ps) ≡ none
       → JustWhere (first (pairs-checks ps) ≡ some 13) (65534 ≤ linear-length ps)
   -- 16, 32 and 12
-  pub opening-read : (which : Which) (m : List ℕ) (s : ℕ) → Bytes m → (o : Opening) (t : ℕ) → operation (read-opening which) m s ≡ accepted o t
+  pub opening-read : (which : Which) (policy : Policy) (m : List ℕ) (s : ℕ) → Bytes m → (o : Opening) (t : ℕ) → operation (read-opening which policy) m s ≡ accepted o t
       → OpeningSized s (o .version) (length (o .messageId .bytes)) t
   pub body-read : (which : Which) (mode : Mode) (max : Max) (pairRoom keyRoom : ℕ) (m : List ℕ) (s : ℕ) → Bytes m → (b : HeaderBody) (t : ℕ)
       → operation (read-header-body which mode max pairRoom keyRoom) m s ≡ accepted b t

@@ -13,7 +13,8 @@ use Rattle.format.specs.Keys.{write-encrypted-data-keys-section}
 use Rattle.format.specs.Body.{image}
 use Rattle.format.specs.Auth.{write-header-auth-tag}
 use Rattle.format.specs.Frames.{Frame, FrameAt, frame-places, write-frames}
-use Rattle.format.specs.Checks.{Check, check, first, pairs-checks, keys-checks, body-checks, auth-checks, frames-checks}
+use Rattle.format.specs.Policies.{Policy, no-policy}
+use Rattle.format.specs.Checks.{Check, check, first, pairs-checks, keys-checks, body-checks-under, auth-checks, frames-checks}
 
 -- the bytes of m at a place
 abbrev pub bytes-at : List ℕ → ℕ → ℕ → List ℕ
@@ -166,12 +167,17 @@ fields-to-write b =
       suiteData = b .suiteData;
     }
 
-unfoldable pub writing-header-body : BodyToWrite → Writing
-writing-header-body b =
+-- under a policy, which changes no image
+unfoldable pub writing-header-body-under : Policy → BodyToWrite → Writing
+writing-header-body-under policy b =
     record {
-      checks = body-checks (table-checks 4 (b .text) (b .pairTable)) (table-checks 6 (b .text) (b .keyTable)) (b .form) (fields-to-write b);
+      checks = body-checks-under policy (table-checks 4 (b .text) (b .pairTable)) (table-checks 6 (b .text) (b .keyTable)) (b .form) (fields-to-write b);
       image = image (b .form) (fields-to-write b);
     }
+
+-- without one
+abbrev pub writing-header-body : BodyToWrite → Writing
+writing-header-body = writing-header-body-under no-policy
 
 unfoldable pub writing-header-auth-tag : ℕ → List ℕ → List ℕ → Writing
 writing-header-auth-tag suite iv tag = record { checks = auth-checks suite (length iv) (length tag); image = write-header-auth-tag suite iv tag }

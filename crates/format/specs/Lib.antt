@@ -5,6 +5,7 @@ pub mod Shared
 pub mod Fields
 pub mod Context
 pub mod Keys
+pub mod Policies
 pub mod Body
 pub mod Auth
 pub mod Frames
@@ -27,3 +28,4 @@ pub mod Size
 pub mod Pinned
 pub mod SourceEquality
 pub mod Selection
+pub mod UnderPolicy

@@ -16,6 +16,7 @@ use Rattle.format.specs.Shared.{by, one-or-two, SuiteRow, row, suites, s
 use Rattle.format.specs.Fields.{Form, old, Pair, PairAt, pair-of, pair-places, EncryptedDataKey, EncryptedDataKeyAt, key-of, key-places, key-parts}
 use Rattle.format.specs.Context.{seen, linear-length, write-aad-pairs}
 use Rattle.format.specs.Keys.{Max, no-max, at-most, within, write-encrypted-data-keys}
+use Rattle.format.specs.Policies.{Policy}
 use Rattle.format.specs.Body.{Which, either, tests-frames}
 use Rattle.format.specs.Checks.{Check, first, count-checks, keys-checks, fits-form}
 use Rattle.format.specs.Lent.{bytes-at, filled, pair-numbers, key-numbers, frame-numbers, items, pair-in, key-in, frame-in, table-checks}
@@ -104,8 +105,8 @@ pub record Pinned : Type 0 where
   pub mark-fits : (form : Form) (pairs : ℕ) → Decides (fits-form form pairs) (form ≡ old → pairs ≡ 0)
   -- the context section that a body reader reaches is 00 02 00 00: no refusal listed before the section's applies, and those are the
   -- bytes that stand 20 or 35 behind the start
-  pub reaches : (which : Which) (m : List ℕ) (s : ℕ)
-      → Decides (reaches-old which m s) (NoneApplies (operation-list (opening-list which) m s) × (bytes-at m (s + by (number8 m s) 20 35) 4 ≡ (0x00 ∷ 0x02 ∷ 0x00 ∷ 0x00 ∷ [])))
+  pub reaches : (which : Which) (policy : Policy) (m : List ℕ) (s : ℕ)
+      → Decides (reaches-old policy which m s) (NoneApplies (operation-list (opening-list which policy) m s) × (bytes-at m (s + by (number8 m s) 20 35) 4 ≡ (0x00 ∷ 0x02 ∷ 0x00 ∷ 0x00 ∷ [])))
   -- a maximum is passed by a count above it
   pub maximum : (n max : ℕ) → Decides (within n (at-most max)) (n ≤ max)
   pub no-maximum : (n : ℕ) → within n no-max ≡ true

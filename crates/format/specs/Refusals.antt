@@ -2,6 +2,7 @@
 -- then the others in the order in which they are tested. 13 is in none of the lists. Assumes nothing.
 use mathlib.Core.Path.{_≡_}
 use mathlib.Core.Bool.{Bool, true, false}
+use mathlib.Core.Option.{Option, none, some}
 use mathlib.Core.List.{List, [], _∷_, _++_, List·Memᴰ}
 use Prim.Native.Nat.{ℕ, _+_, _-_, _<_}
 use lib.ListN.{length}
@@ -9,6 +10,7 @@ use Rattle.format.specs.Read.{Reader, operation, refused}
 use Rattle.format.specs.Serialize.{Bytes}
 use Rattle.format.specs.Context.{Mode, tolerant, strict, read-aad-section-into, find-value}
 use Rattle.format.specs.Keys.{Max, read-encrypted-data-keys-section-into}
+use Rattle.format.specs.Policies.{Policy, lets-read}
 use Rattle.format.specs.Body.{Which, either, v1-only, v2-only, Request, read-body}
 use Rattle.format.specs.Auth.{read-header-auth-tag}
 use Rattle.format.specs.Frames.{read-frames-into}
@@ -36,10 +38,27 @@ unfoldable pub keys-refusals : List ℕ
 keys-refusals = 1 ∷ 2 ∷ (key-section-refusals ++ (23 ∷ []))
 
 -- only a reader of one version answers 4, and one of version 2 alone never 5
-unfoldable pub opening-refusals : Which → List ℕ
-opening-refusals either = 3 ∷ 5 ∷ 6 ∷ 7 ∷ []
-opening-refusals v1-only = 3 ∷ 4 ∷ 5 ∷ 6 ∷ 7 ∷ []
-opening-refusals v2-only = 3 ∷ 4 ∷ 6 ∷ 7 ∷ []
+unfoldable pub lead-refusals : Which → List ℕ
+lead-refusals either = 3 ∷ 5 ∷ 6 ∷ 7 ∷ []
+lead-refusals v1-only = 3 ∷ 4 ∷ 5 ∷ 6 ∷ 7 ∷ []
+lead-refusals v2-only = 3 ∷ 4 ∷ 6 ∷ 7 ∷ []
+
+-- 39 where version 1 is asked for and forbidden; version 2 is forbidden by no policy. True: version 1 is let be read
+unfoldable pub forbidden-refusals : Bool → Which → List ℕ
+forbidden-refusals true which = []
+forbidden-refusals false either = 39 ∷ []
+forbidden-refusals false v1-only = 39 ∷ []
+forbidden-refusals false v2-only = []
+
+unfoldable pub opening-refusals : Which → Policy → List ℕ
+opening-refusals which policy = lead-refusals which ++ forbidden-refusals (lets-read policy 1) which
+
+-- the versions that come past an opening, if any does
+unfoldable pub passing : Bool → Which → Option Which
+passing true which = some which
+passing false either = some v2-only
+passing false v1-only = none
+passing false v2-only = some v2-only
 
 -- nor 18 and 19
 unfoldable pub reserved-refusals : Which → List ℕ
@@ -55,8 +74,14 @@ frame-refusals false = []
 unfoldable pub closing-refusals : Which → Bool → List ℕ
 closing-refusals which frames = 17 ∷ (reserved-refusals which ++ (frame-refusals frames ++ (22 ∷ 23 ∷ [])))
 
+-- behind the opening, by the sections' numbers
+unfoldable pub numbers-behind : Option Which → List ℕ → List ℕ → Bool → List ℕ
+numbers-behind none ks js frames = []
+numbers-behind (some which) ks js frames = ks ++ (js ++ closing-refusals which frames)
+
 unfoldable pub body-refusals : Request → List ℕ
-body-refusals q = 1 ∷ 2 ∷ (opening-refusals (q .which) ++ (section-refusals (q .mode) ++ (key-section-refusals ++ closing-refusals (q .which) (q .frames))))
+body-refusals q =
+    1 ∷ 2 ∷ (opening-refusals (q .which) (q .policy) ++ numbers-behind (passing (lets-read (q .policy) 1) (q .which)) (section-refusals (q .mode)) key-section-refusals (q .frames))
 
 unfoldable pub auth-refusals : List ℕ
 auth-refusals = 1 ∷ 2 ∷ 6 ∷ []

@@ -1,11 +1,12 @@
 -- The size before writing: what a writer will answer, told without an output or its length. Proved in proofs/Size. Assumes nothing.
 use mathlib.Core.Path.{_≡_}
-use mathlib.Core.List.{List, [], _∷_, List·Memᴰ}
+use mathlib.Core.List.{List, [], _∷_, _++_, List·Memᴰ}
 use Prim.Native.Nat.{ℕ, _+_, _≤_, _<_}
 use lib.ListN.{length}
 use Rattle.format.specs.Read.{Answer, accepted, refused}
 use Rattle.format.specs.Fields.{Form, today, old}
-use Rattle.format.specs.Lent.{Writing, written, output-after, size-of, BodyToWrite, fields-to-write, writing-header-body, writing-frames}
+use Rattle.format.specs.Policies.{Policy, no-policy, forbid-encrypt-allow-decrypt, require-encrypt-allow-decrypt, require-encrypt-require-decrypt}
+use Rattle.format.specs.Lent.{Writing, written, output-after, size-of, BodyToWrite, fields-to-write, writing-header-body-under, writing-header-body, writing-frames}
 use Rattle.format.specs.Lengths.{JustWhere}
 
 -- every writer
@@ -19,9 +20,16 @@ pub record SizeLaw (w : Writing) : Type 0 where
   pub refusal-given : (out : List ℕ) (k p : ℕ) → written w out ≡ refused k p → (k ≡ 28 → ⊥) → size-of w ≡ refused k p
   pub length-given : (out : List ℕ) (n : ℕ) → written w out ≡ accepted tt n → size-of w ≡ accepted tt n
 
+-- each policy forbids the writing of one version
+unfoldable pub writing-policy-refusals : Policy → List ℕ
+writing-policy-refusals no-policy = []
+writing-policy-refusals forbid-encrypt-allow-decrypt = 39 ∷ []
+writing-policy-refusals require-encrypt-allow-decrypt = 39 ∷ []
+writing-policy-refusals require-encrypt-require-decrypt = 39 ∷ []
+
 -- the numbers of a body's refusals, in the order of their tests; 26 and 27 stand before the keys' 38 as well
-unfoldable pub size-refusals : List ℕ
-size-refusals = 3 ∷ 5 ∷ 6 ∷ 7 ∷ 24 ∷ 26 ∷ 27 ∷ 10 ∷ 11 ∷ 12 ∷ 13 ∷ 33 ∷ 38 ∷ 16 ∷ 17 ∷ 19 ∷ 25 ∷ 20 ∷ []
+unfoldable pub size-refusals : Policy → List ℕ
+size-refusals policy = 3 ∷ 5 ∷ 6 ∷ 7 ∷ (writing-policy-refusals policy ++ (24 ∷ 26 ∷ 27 ∷ 10 ∷ 11 ∷ 12 ∷ 13 ∷ 33 ∷ 38 ∷ 16 ∷ 17 ∷ 19 ∷ 25 ∷ 20 ∷ []))
 
 -- and of frames'
 unfoldable pub frames-size-refusals : List ℕ
@@ -56,7 +64,7 @@ longer k (refused j p) = refused j p
 
 pub record SizeLaws : Type 0 where
   pub of-writers : (w : Writing) → SizeLaw w
-  pub of-body : (b : BodyToWrite) → GivenBy size-refusals (writing-header-body b)
+  pub of-body : (policy : Policy) (b : BodyToWrite) → GivenBy (size-refusals policy) (writing-header-body-under policy b)
   pub of-frames : (frame : ℕ) (text table : List ℕ) → GivenBy frames-size-refusals (writing-frames frame text table)
   -- marked old, a body without pairs takes two bytes more than marked as today's, and is refused alike; one with a pair has no length
   pub old-without-pairs : (b : BodyToWrite) → fields-to-write b .pairs ≡ [] → size-of (writing-header-body (marked old b)) ≡ longer 2 (size-of (writing-header-body (marked today b)))

@@ -1,6 +1,6 @@
 -- EncryptionContext.dfy and EncryptedDataKeys.dfy as their function bodies read: the source holds no part of a context section to the section's
 -- end, and tests what the pairs take instead; and it reads and writes a key count of 0. What documents 01 and 02 add to the source, the strict mode, the
--- tables, the numbers, the mark and what writers test, is in both, so that they differ in nothing else. It is kept to be compared with
+-- tables, the numbers, the mark, a policy in reading and what writers test, is in both, so that they differ in nothing else. It is kept to be compared with
 -- (specs/SourceEquality); no contract cites it. Assumes nothing.
 use mathlib.Core.Bool.{Bool, true, false, not}
 use mathlib.Core.List.{List, [], map, _++_}
@@ -13,6 +13,7 @@ use Rattle.format.specs.Fields.{PairAt, pair-of, EncryptedDataKey, Encry
 use Rattle.format.specs.Context.{seen, pair-length, linear-length, pairs-limit, Mode, tolerant, read-aad-pair, read-aad-by, ContextAt, with-mark, look-up}
 use Rattle.format.specs.Keys.{Max, read-encrypted-data-keys-of, write-encrypted-data-keys-section}
 use Rattle.format.specs.OnlyAuthenticated.{only-authenticated, in-twos, fitting}
+use Rattle.format.specs.Policies.{no-policy}
 use Rattle.format.specs.Body.{Opening, read-opening, Request, after-keys, image}
 use Rattle.format.specs.Checks.{Check, each, count-checks, key-checks, pairs-checks, body-checks-of}
 use Rattle.format.specs.Lent.{keys-in, table-checks, Writing, BodyToWrite, fields-to-write}
@@ -74,7 +75,7 @@ unfoldable pub source-after-opening : Request → Opening → Reader HeaderBody
 source-after-opening q o = with-mark (source-read-aad-section (q .mode)) >>= source-after-context q o
 
 unfoldable pub source-read-body : Request → Reader HeaderBody
-source-read-body q = read-opening (q .which) >>= source-after-opening q
+source-read-body q = read-opening (q .which) (q .policy) >>= source-after-opening q
 
 -- WriteEncryptedDataKeysSection, and a body with it
 unfoldable pub source-keys-checks : List EncryptedDataKey → List Check
@@ -88,6 +89,6 @@ unfoldable pub source-writing-header-body : BodyToWrite → Writing
 source-writing-header-body b =
     let f = fields-to-write b in
     record {
-      checks = body-checks-of (table-checks 4 (b .text) (b .pairTable) ++ pairs-checks (f .pairs)) (table-checks 6 (b .text) (b .keyTable) ++ source-keys-checks (f .keys)) (b .form) f;
+      checks = body-checks-of no-policy (table-checks 4 (b .text) (b .pairTable) ++ pairs-checks (f .pairs)) (table-checks 6 (b .text) (b .keyTable) ++ source-keys-checks (f .keys)) (b .form) f;
       image = image (b .form) f;
     }

@@ -32,7 +32,7 @@ NoKeyAt m s = NoKey (operation-list (λ m s. []) m s) m s
 
 -- of a body: the opening's and the context section's refusals, too, come before it
 unfoldable pub before-keys : Request → List ℕ → ℕ → List Line
-before-keys q m s = opening-list (q .which) m s ++ context-list (q .mode) m (s + by (number8 m s) 20 35)
+before-keys q m s = opening-list (q .which) (q .policy) m s ++ context-list (q .mode) m (s + by (number8 m s) 20 35)
 
 abbrev pub NoKeyIn : Request → List ℕ → ℕ → Type 0
 NoKeyIn q m s = NoKey (operation-list (before-keys q) m s) m (entry-end m (s + by (number8 m s) 20 35))
