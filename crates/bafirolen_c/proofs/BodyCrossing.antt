@@ -5,9 +5,9 @@ use mathlib.Core.List.{List}
 use lib.ListN.{length}
 use Rattle.format.specs.Read.{Answer, accepted, refused, operation}
 use Rattle.format.specs.Fields.{HeaderBody as BodyRead}
-use Rattle.format.specs.Body.{read-header-body}
+use Rattle.format.specs.Body.{read-header-body-under, read-header-body}
 use Rattle.wire.specs.declared.Refusal.{Refusal}
-use Rattle.request.specs.Codes.{which-of, mode-of, max-of}
+use Rattle.request.specs.Codes.{which-of, policy-of, mode-of, max-of}
 use Rattle.request.specs.declared.Request.{Request}
 use Rattle.body_reader.specs.Codes.{body-of}
 use Rattle.body_reader.specs.Codes.{ReadsBody as Reads}
@@ -15,7 +15,7 @@ use Rattle.body_reader.specs.declared.HeaderBody.{HeaderBody as BodyCode}
 use Rattle.body_reader.specs.declared.HeaderBodyAnswer.{HeaderBodyAnswer}
 use Rattle.body_reader.specs.declared.HeaderBodyAnswer.the-variants.{Accepted, Refused}
 use Rattle.bafirolen_c.specs.declared.BafirolenBody.{BafirolenBody}
-use Rattle.bafirolen_c.specs.Asked.{which-asked, mode-asked, max-asked, request-asked}
+use Rattle.bafirolen_c.specs.Asked.{which-asked, mode-asked, max-asked, policy-asked, request-asked}
 use Rattle.bafirolen_c.specs.Exports.{body-with, no-body, body-record, body-fields, ReadsBody, answer-number, answer-position}
 
 pub body-accepted : (a : HeaderBodyAnswer) (b : BodyCode) (t : ℕ) → a ≡ Accepted b t → (r : BafirolenBody) → r ≡ body-with b t → r ≡ body-fields a
@@ -33,11 +33,18 @@ body-crosses : (o : Answer BodyRead) (pairs pairs′ keys keys′ : List ℕ) (a
 body-crosses o pairs pairs′ keys keys′ a f r e =
     record { answer = e ∙ ap body-fields (f .answer) ∙ body-as o; pairTable = f .pairTable; keyTable = f .keyTable }
 
-pub body-read : (w n h x : ℕ) (q : Request) → q ≡ request-asked w n h x → (m pairs pairs′ keys keys′ : List ℕ) (s : ℕ) (a : HeaderBodyAnswer)
-    → Reads (operation (read-header-body (which-of (q .which)) (mode-of (q .mode)) (max-of (q .max)) (length pairs) (length keys)) m s) pairs pairs′ keys keys′ a
+-- under a policy, and without one, which is number 0
+pub body-read-under : (w n h x y : ℕ) (q : Request) → q ≡ request-asked w n h x y → (m pairs pairs′ keys keys′ : List ℕ) (s : ℕ) (a : HeaderBodyAnswer)
+    → Reads (operation (read-header-body-under (policy-of (q .policy)) (which-of (q .which)) (mode-of (q .mode)) (max-of (q .max)) (length pairs) (length keys)) m s) pairs pairs′ keys keys′ a
+    → (r : BafirolenBody) → r ≡ body-fields a
+    → ReadsBody (operation (read-header-body-under (policy-of (policy-asked y)) (which-of (which-asked w)) (mode-of (mode-asked n)) (max-of (max-asked h x)) (length pairs) (length keys)) m s) pairs pairs′ keys keys′ r
+body-read-under w n h x y q is m pairs pairs′ keys keys′ s a f r e = body-crosses _ pairs pairs′ keys keys′ a (rw is at f) r e
+
+pub body-read : (w n h x : ℕ) (q : Request) → q ≡ request-asked w n h x 0 → (m pairs pairs′ keys keys′ : List ℕ) (s : ℕ) (a : HeaderBodyAnswer)
+    → Reads (operation (read-header-body-under (policy-of (q .policy)) (which-of (q .which)) (mode-of (q .mode)) (max-of (q .max)) (length pairs) (length keys)) m s) pairs pairs′ keys keys′ a
     → (r : BafirolenBody) → r ≡ body-fields a
     → ReadsBody (operation (read-header-body (which-of (which-asked w)) (mode-of (mode-asked n)) (max-of (max-asked h x)) (length pairs) (length keys)) m s) pairs pairs′ keys keys′ r
-body-read w n h x q is m pairs pairs′ keys keys′ s a f r e = body-crosses _ pairs pairs′ keys keys′ a (rw is at f) r e
+body-read w n h x = body-read-under w n h x 0
 
 -- the code's answer by its number and its position
 abbrev code-number : HeaderBodyAnswer → ℕ

@@ -13,12 +13,13 @@ use Rattle.format.specs.Context.{read-aad-section-into}
 use Rattle.format.specs.Keys.{read-encrypted-data-keys-section-into}
 use Rattle.format.specs.Auth.{HeaderAuth as AuthTag}
 use Rattle.format.specs.Frames.{FrameAt}
-use Rattle.format.specs.Lent.{Writing, written, pair-numbers, key-numbers, frame-numbers}
+use Rattle.format.specs.Lent.{Writing, written, size-of, BodyToWrite, writing-header-body-under, pair-numbers, key-numbers, frame-numbers}
 use Rattle.wire.specs.declared.Refusal.{Refusal}
-use Rattle.request.specs.Codes.{mode-of, max-of}
+use Rattle.request.specs.Codes.{policy-of, mode-of, max-of}
 use Rattle.request.specs.declared.Max.{Max}
 use Rattle.request.specs.declared.Mode.{Mode}
 use Rattle.request.specs.declared.Which.{Which}
+use Rattle.request.specs.declared.Policy.{Policy}
 use Rattle.request.specs.declared.Request.{Request}
 use Rattle.entries.specs.Codes.{Reads}
 use Rattle.context.specs.Codes.{context-of, found-of}
@@ -43,7 +44,7 @@ use Rattle.bafirolen_c.specs.declared.BafirolenSection.{BafirolenSection
 use Rattle.bafirolen_c.specs.declared.BafirolenAuth.{BafirolenAuth}
 use Rattle.bafirolen_c.specs.declared.BafirolenPlace.{BafirolenPlace}
 use Rattle.bafirolen_c.specs.declared.BafirolenWritten.{BafirolenWritten}
-use Rattle.bafirolen_c.specs.Asked.{which-asked, mode-asked, max-asked, request-asked}
+use Rattle.bafirolen_c.specs.Asked.{which-asked, mode-asked, max-asked, policy-asked, request-asked}
 use Rattle.bafirolen_c.specs.Exports.{section-with, no-section, section-record, context-fields, keys-fields, frames-fields, auth-record, auth-fields, place-record, found-fields, wrote, written-record, write-fields, image-record, Writes}
 
 -- a number that is tested
@@ -54,9 +55,9 @@ module _ {A : Type 0} (n k : ℕ) (x y : A) where
   pub is-not : (n ≡ k → ⊥) → (z : A) → z ≡ y → z ≡ cond (eqb n k) x y
   is-not h z e = e ∙ sym (rw (ne-eqb n k h))
 
-pub request-of : (w n h x : ℕ) (which : Which) (mode : Mode) (max : Max) → which ≡ which-asked w → mode ≡ mode-asked n → max ≡ max-asked h x
-    → record { which = which; mode = mode; max = max } ≡ request-asked w n h x
-request-of w n h x which mode max e f g = rw (e, f, g)
+pub request-of : (w n h x y : ℕ) (which : Which) (policy : Policy) (mode : Mode) (max : Max) → which ≡ which-asked w → policy ≡ policy-asked y → mode ≡ mode-asked n → max ≡ max-asked h x
+    → record { which = which; policy = policy; mode = mode; max = max } ≡ request-asked w n h x y
+request-of w n h x y which policy mode max e p f g = rw (e, p, f, g)
 
 -- what was read
 module _ (n t : ℕ) (r : BafirolenSection) (is : r ≡ section-with n t) where
@@ -122,18 +123,18 @@ module _ {A R S : Type 0} (code : Answer A → R) (fields : R → S) (crossed : 
   reads-cross : (numbers : A → List ℕ) (o : Answer A) (before after : List ℕ) (a : R) (r : S) → r ≡ fields a → Reads code numbers o before after a → Reads crossed numbers o before after r
   reads-cross numbers o before after a r e f = record { answer = e ∙ ap fields (f .answer) ∙ agrees o; table = f .table }
 
-pub context-crosses : (w n h x : ℕ) (q : Request) → q ≡ request-asked w n h x → (m before after : List ℕ) (s : ℕ) (a : ContextAnswer)
+pub context-crosses : (w n h x y : ℕ) (q : Request) → q ≡ request-asked w n h x y → (m before after : List ℕ) (s : ℕ) (a : ContextAnswer)
     → Reads context-of pair-numbers (operation (read-aad-section-into (mode-of (q .mode)) (length before)) m s) before after a
     → (r : BafirolenSection) → r ≡ context-fields a
     → Reads section-record pair-numbers (operation (read-aad-section-into (mode-of (mode-asked n)) (length before)) m s) before after r
-context-crosses w n h x q is m before after s a f r e =
+context-crosses w n h x y q is m before after s a f r e =
     reads-cross context-of context-fields section-record context-as pair-numbers _ before after a r e (rw is at f)
 
-pub keys-cross : (w n h x : ℕ) (q : Request) → q ≡ request-asked w n h x → (m before after : List ℕ) (s : ℕ) (a : KeysAnswer)
+pub keys-cross : (w n h x y : ℕ) (q : Request) → q ≡ request-asked w n h x y → (m before after : List ℕ) (s : ℕ) (a : KeysAnswer)
     → Reads keys-of key-numbers (operation (read-encrypted-data-keys-section-into (max-of (q .max)) (length before)) m s) before after a
     → (r : BafirolenSection) → r ≡ keys-fields a
     → Reads section-record key-numbers (operation (read-encrypted-data-keys-section-into (max-of (max-asked h x)) (length before)) m s) before after r
-keys-cross w n h x q is m before after s a f r e =
+keys-cross w n h x y q is m before after s a f r e =
     reads-cross keys-of keys-fields section-record keys-as key-numbers _ before after a r e (rw is at f)
 
 pub frames-cross : (o : Answer (List FrameAt)) (before after : List ℕ) (a : FramesAnswer) → Reads frames-of frame-numbers o before after a → (r : BafirolenSection) → r ≡ frames-fields a
@@ -151,6 +152,16 @@ answer-crosses o a e r f = f ∙ ap write-fields e ∙ write-as o
 
 pub write-crosses : (w : Writing) (before after : List ℕ) (a : WriteAnswer) (r : BafirolenWritten) → r ≡ write-fields a → Answers w before after a → Writes w before after r
 write-crosses w before after a r e f = record { answer = answer-crosses (written w before) a (f .answer) r e; output = f .output }
+
+-- and of a body under a policy
+module _ (y : ℕ) (p : Policy) (is : p ≡ policy-asked y) (b : BodyToWrite) where
+  pub size-under : (a : WriteAnswer) → a ≡ write-answer-of (size-of (writing-header-body-under (policy-of p) b)) → (r : BafirolenWritten) → r ≡ write-fields a
+      → r ≡ written-record (size-of (writing-header-body-under (policy-of (policy-asked y)) b))
+  size-under a f r e = answer-crosses (size-of (writing-header-body-under (policy-of (policy-asked y)) b)) a (rw is at f) r e
+
+  pub write-under : (before after : List ℕ) (a : WriteAnswer) (r : BafirolenWritten) → r ≡ write-fields a → Answers (writing-header-body-under (policy-of p) b) before after a
+      → Writes (writing-header-body-under (policy-of (policy-asked y)) b) before after r
+  write-under before after a r e f = write-crosses _ before after a r e (rw is at f)
 
 image-as : (o : Answer (List ℕ)) → write-fields (written-as o) ≡ image-record o
 image-as (accepted image t) = refl

@@ -1,3 +1,4 @@
 pub mod BodyCrossing
+pub mod Numbers
 pub mod Crossing
 pub mod Copying

@@ -1,10 +1,11 @@
 // A request in numbers. Every number asks for something.
 use request::Max;
 use request::Mode;
+use request::Policy;
 use request::Request;
 use request::Which;
 ghost use mathlib.Core.Path.{_≡_};
-ghost use Rattle.bafirolen_c.specs.Asked.{which-asked, mode-asked, max-asked, request-asked};
+ghost use Rattle.bafirolen_c.specs.Asked.{which-asked, mode-asked, max-asked, policy-asked, request-asked};
 
 // 1: version 1 only; 2: version 2 only; any other: either version, whose reader alone tests the frame length.
 fn which_asked(which: u32) -> Which
@@ -39,11 +40,29 @@ fn max_asked(hasMax: u32, max: u64) -> Max
     Max::AtMost(max)
 }
 
-pub fn request_asked(which: u32, mode: u32, hasMax: u32, max: u64) -> Request
-    ensures { λ r. ⌜ r ≡ request-asked which mode hasMax max ⌝ }
+// 0: none; 1: FORBID_ENCRYPT_ALLOW_DECRYPT; 2: REQUIRE_ENCRYPT_ALLOW_DECRYPT; any other: REQUIRE_ENCRYPT_REQUIRE_DECRYPT, under which least is
+// read, for a number that names no policy.
+pub fn policy_asked(policy: u32) -> Policy
+    ensures { λ r. ⌜ r ≡ policy-asked policy ⌝ }
+{
+    if policy == 0 {
+        return Policy::None;
+    }
+    if policy == 1 {
+        return Policy::ForbidEncryptAllowDecrypt;
+    }
+    if policy == 2 {
+        return Policy::RequireEncryptAllowDecrypt;
+    }
+    Policy::RequireEncryptRequireDecrypt
+}
+
+pub fn request_asked(which: u32, mode: u32, hasMax: u32, max: u64, policy: u32) -> Request
+    ensures { λ r. ⌜ r ≡ request-asked which mode hasMax max policy ⌝ }
 {
     Request {
         which: which_asked(which),
+        policy: policy_asked(policy),
         mode: mode_asked(mode),
         max: max_asked(hasMax, max),
     }

@@ -56,7 +56,7 @@ fn body_with(body: body_reader::HeaderBody, tail: u64) -> BafirolenBody
     }
 }
 
-fn body_record(a: HeaderBodyAnswer) -> BafirolenBody
+pub fn body_record(a: HeaderBodyAnswer) -> BafirolenBody
     ensures { λ r. ⌜ r ≡ body-fields a ⌝ }
 {
     match a {
@@ -65,7 +65,7 @@ fn body_record(a: HeaderBodyAnswer) -> BafirolenBody
     }
 }
 
-// which 1: version 1 only; 2: version 2 only; any other: either version. Mode and maximum as for the sections. The places of the
+// which 1: version 1 only; 2: version 2 only; any other: either version. Mode and maximum as for the sections; no policy. The places of the
 // pairs and keys go into the tables, four numbers a pair and six a key; on a refusal both keep.
 #[no_mangle]
 pub extern "C" fn bafirolen_read_header_body(
@@ -80,6 +80,6 @@ pub extern "C" fn bafirolen_read_header_body(
 ) -> BafirolenBody
     ensures { λ r. ⌜ ReadsBody (operation (read-header-body (which-of (which-asked which)) (mode-of (mode-asked mode)) (max-of (max-asked hasMax max)) (length (now (pairs .entry))) (length (now (keys .entry)))) (now (m .entry)) start) (now (pairs .entry)) (now (pairs .exit)) (now (keys .entry)) (now (keys .exit)) r ⌝ }
 {
-    let request = request_asked(which, mode, hasMax, max);
+    let request = request_asked(which, mode, hasMax, max, 0);
     body_record(body_reader::read_header_body(m, start, request, pairs, keys))
 }

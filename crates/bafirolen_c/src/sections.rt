@@ -58,7 +58,7 @@ pub extern "C" fn bafirolen_read_aad_section(
 ) -> BafirolenSection
     ensures { λ r. ⌜ Reads section-record pair-numbers (operation (read-aad-section-into (mode-of (mode-asked mode)) (length (now (table .entry)))) (now (m .entry)) start) (now (table .entry)) (now (table .exit)) r ⌝ }
 {
-    context_record(context::read_aad_section(m, start, request_asked(0, mode, 0, 0), table))
+    context_record(context::read_aad_section(m, start, request_asked(0, mode, 0, 0, 0), table))
 }
 
 fn keys_record(a: KeysAnswer) -> BafirolenSection
@@ -85,7 +85,7 @@ pub extern "C" fn bafirolen_read_encrypted_data_keys_section(
     keys_record(keys::read_encrypted_data_keys_section(
         m,
         start,
-        request_asked(0, 0, hasMax, max),
+        request_asked(0, 0, hasMax, max, 0),
         table,
     ))
 }

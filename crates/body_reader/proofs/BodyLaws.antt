@@ -15,14 +15,15 @@ use Rattle.format.specs.Shared.{frame-fits}
 use Rattle.format.specs.Fields.{form-number}
 use Rattle.format.specs.Fields.{HeaderBody as BodyRead}
 use Rattle.format.specs.Context.{form-ending}
-use Rattle.format.specs.Body.{Request, tests-frames, request, whole, read-opening, read-closing, read-body, read-header-body}
+use Rattle.format.specs.Body.{Request, tests-frames, request-under, whole, read-opening, read-closing, read-body, read-header-body-under}
 use Rattle.format.specs.Lent.{place, filled, pair-table-after, key-table-after}
 use Rattle.steps.proofs.Operations.{operation-guarded, operation-reached}
 use Rattle.wire.specs.Codes.{because}
 use Rattle.wire.specs.declared.Refusal.{Refusal}
 use Rattle.format.specs.Places.{entries-here, entries-end}
-use Rattle.request.specs.Codes.{which-of, mode-of, max-of}
+use Rattle.request.specs.Codes.{which-of, policy-of, mode-of, max-of}
 use Rattle.request.specs.declared.Which.{Which}
+use Rattle.request.specs.declared.Policy.{Policy}
 use Rattle.request.specs.declared.Mode.{Mode}
 use Rattle.request.specs.declared.Max.{Max}
 use Rattle.context.proofs.Whole as pairs
@@ -57,34 +58,34 @@ module _ (firstPair end : ℕ) where
   marked-today h = rw (ne-eqb _ _ h)
 
 -- the guard
-module _ (which : Which) (mode : Mode) (max : Max) (m : List ℕ) (start : ℕ) (pt kt : List ℕ) (b : Bool) (is : b ≡ addressable m start) (r : HeaderBodyAnswer) where
-  pub body-1 : b ≡ false → r ≡ body.Refused (because 1 0) → ReadsBody (operation (read-header-body (which-of which) (mode-of mode) (max-of max) (length pt) (length kt)) m start) pt pt kt kt r
-  body-1 e f = refuses _ 1 0 pt kt r (operation-guarded (read-header-body (which-of which) (mode-of mode) (max-of max) (length pt) (length kt)) m start (sym is ∙ e)) f
+module _ (policy : Policy) (which : Which) (mode : Mode) (max : Max) (m : List ℕ) (start : ℕ) (pt kt : List ℕ) (b : Bool) (is : b ≡ addressable m start) (r : HeaderBodyAnswer) where
+  pub body-1 : b ≡ false → r ≡ body.Refused (because 1 0) → ReadsBody (operation (read-header-body-under (policy-of policy) (which-of which) (mode-of mode) (max-of max) (length pt) (length kt)) m start) pt pt kt kt r
+  body-1 e f = refuses _ 1 0 pt kt r (operation-guarded (read-header-body-under (policy-of policy) (which-of which) (mode-of mode) (max-of max) (length pt) (length kt)) m start (sym is ∙ e)) f
 
-  pub body-here : b ≡ true → (pt′ kt′ : List ℕ) → ReadsBody (at (read-header-body (which-of which) (mode-of mode) (max-of max) (length pt) (length kt)) m start) pt pt′ kt kt′ r
-      → ReadsBody (operation (read-header-body (which-of which) (mode-of mode) (max-of max) (length pt) (length kt)) m start) pt pt′ kt kt′ r
-  body-here e pt′ kt′ f = rw (operation-reached (read-header-body (which-of which) (mode-of mode) (max-of max) (length pt) (length kt)) m start (sym is ∙ e)) f
+  pub body-here : b ≡ true → (pt′ kt′ : List ℕ) → ReadsBody (at (read-header-body-under (policy-of policy) (which-of which) (mode-of mode) (max-of max) (length pt) (length kt)) m start) pt pt′ kt kt′ r
+      → ReadsBody (operation (read-header-body-under (policy-of policy) (which-of which) (mode-of mode) (max-of max) (length pt) (length kt)) m start) pt pt′ kt kt′ r
+  body-here e pt′ kt′ f = rw (operation-reached (read-header-body-under (policy-of policy) (which-of which) (mode-of mode) (max-of max) (length pt) (length kt)) m start (sym is ∙ e)) f
 
 -- what was measured
-module _ (which : Which) (mode : Mode) (max : Max) (m : List ℕ) (start : ℕ) (a : MeasureAnswer) (a-is : Measured which mode max m start a) where
+module _ (policy : Policy) (which : Which) (mode : Mode) (max : Max) (m : List ℕ) (start : ℕ) (a : MeasureAnswer) (a-is : Measured policy which mode max m start a) where
   pub body-not : (pt kt : List ℕ) (q : Refusal) → a ≡ measure.Not q → (w : Refusal) → w ≡ why-measure a
-      → ReadsBody (at (read-header-body (which-of which) (mode-of mode) (max-of max) (length pt) (length kt)) m start) pt pt kt kt (body.Refused w)
+      → ReadsBody (at (read-header-body-under (policy-of policy) (which-of which) (mode-of mode) (max-of max) (length pt) (length kt)) m start) pt pt kt kt (body.Refused w)
   body-not pt kt q b w f = refuses _ (q .number) (q .position) pt kt (body.Refused w) (a-is .refuses q b (length pt) (length kt)) (ap body.Refused (f ∙ ap why-measure b))
 
   module _ (o : Opening) (first np second nk : ℕ) (c : Closing) (tail : ℕ) (a-got : a ≡ measure.Is o first np second nk c tail) where
-    stages : Stages which mode max m start o first np second nk c tail
+    stages : Stages policy which mode max m start o first np second nk c tail
     stages = a-is .accepts o first np second nk c tail a-got
 
     -- where the pairs and the keys stand
     pub first-fits : length m < 4294967296 → Fits w64 (first + 4)
-    first-fits h = let y = opening-near m h which start _ refl o first (stages .opens) in omega arith
+    first-fits h = let y = opening-near m h which policy start _ refl o first (stages .opens) in omega arith
 
     pub second-fits : length m < 4294967296 → Fits w64 (second + 2)
     second-fits h = let y = context-near m h mode first _ refl np second (stages .pairs) in omega arith
 
     -- what the definition reads there
-    opened : OpeningHad (at (read-opening (which-of which)) m start) o first
-    opened = opening-got (at (read-opening (which-of which)) m start) _ refl o first (stages .opens)
+    opened : OpeningHad (at (read-opening (which-of which) (policy-of policy)) m start) o first
+    opened = opening-got (at (read-opening (which-of which) (policy-of policy)) m start) _ refl o first (stages .opens)
 
     paired : pairs.Had mode m first np second
     paired = pairs.had mode m first _ refl np second (stages .pairs)
@@ -108,11 +109,11 @@ module _ (which : Which) (mode : Mode) (max : Max) (m : List ℕ) (start : ℕ) 
 
     module _ (pt kt : List ℕ) (r : HeaderBodyAnswer) where
       abbrev asks : Request
-      asks = request (which-of which) (mode-of mode) (tests-frames (which-of which)) (max-of max) (length pt) (length kt)
+      asks = request-under (policy-of policy) (which-of which) (mode-of mode) (tests-frames (which-of which)) (max-of max) (length pt) (length kt)
 
       pub body-22 : length pt / 4 < np → r ≡ body.Refused (because 22 0)
-          → ReadsBody (at (read-header-body (which-of which) (mode-of mode) (max-of max) (length pt) (length kt)) m start) pt pt kt kt r
-      unfolding read-header-body
+          → ReadsBody (at (read-header-body-under (policy-of policy) (which-of which) (mode-of mode) (max-of max) (length pt) (length kt)) m start) pt pt kt kt r
+      unfolding read-header-body-under
       body-22 l f =
           refuses _ 22 0 pt kt r
           (at-22 asks m start (opened .item) first (opened .is) (paired .items) second (paired .is) (keyed .items) _ (keyed .is) (closed .item) tail (closed .is) tested (omega (arith, paired .long)))
@@ -120,8 +121,8 @@ module _ (which : Which) (mode : Mode) (max : Max) (m : List ℕ) (start : ℕ) 
 
       module _ (l : np ≤ length pt / 4) where
         pub body-23 : length kt / 6 < nk → r ≡ body.Refused (because 23 0)
-            → ReadsBody (at (read-header-body (which-of which) (mode-of mode) (max-of max) (length pt) (length kt)) m start) pt pt kt kt r
-        unfolding read-header-body
+            → ReadsBody (at (read-header-body-under (policy-of policy) (which-of which) (mode-of mode) (max-of max) (length pt) (length kt)) m start) pt pt kt kt r
+        unfolding read-header-body-under
         body-23 j f =
             refuses _ 23 0 pt kt r
             (at-23 asks m start (opened .item) first (opened .is) (paired .items) second (paired .is) (keyed .items) _ (keyed .is) (closed .item) tail (closed .is) tested (omega (arith, paired .long)) (omega (arith, keyed .long)))
@@ -129,8 +130,8 @@ module _ (which : Which) (mode : Mode) (max : Max) (m : List ℕ) (start : ℕ) 
 
         pub body-whole : nk ≤ length kt / 6 → (pt′ kt′ : List ℕ) → pt′ ≡ filled (images place (entries-here m (2 * np) (first + 4))) pt
             → kt′ ≡ filled (images place (entries-here m (3 * nk) (second + 2))) kt → (form : ℕ) → form ≡ form-number (form-ending (first + 4) second) → r ≡ body.Accepted (body-with o form np nk c) tail
-            → ReadsBody (at (read-header-body (which-of which) (mode-of mode) (max-of max) (length pt) (length kt)) m start) pt pt′ kt kt′ r
-        unfolding read-header-body
+            → ReadsBody (at (read-header-body-under (policy-of policy) (which-of which) (mode-of mode) (max-of max) (length pt) (length kt)) m start) pt pt′ kt kt′ r
+        unfolding read-header-body-under
         body-whole j pt′ kt′ p k form g f =
             let e =
             at-whole asks m start (opened .item) first (opened .is) (paired .items) second (paired .is) (keyed .items) _ (keyed .is) (closed .item) tail (closed .is) tested (omega (arith, paired .long)) (omega (arith, keyed .long))

@@ -10,11 +10,12 @@ use Rattle.format.specs.Read.{accepted, refused, at}
 use Rattle.format.specs.Shared.{frame-fits}
 use Rattle.format.specs.Context.{read-aad-section}
 use Rattle.format.specs.Keys.{read-encrypted-data-keys-section}
-use Rattle.format.specs.Body.{Request, tests-frames, request, read-opening, read-closing, read-body, read-header-body}
+use Rattle.format.specs.Body.{Request, tests-frames, request-under, read-opening, read-closing, read-body, read-header-body-under}
 use Rattle.wire.specs.Codes.{because}
 use Rattle.wire.specs.declared.Refusal.{Refusal}
-use Rattle.request.specs.Codes.{which-of, mode-of, max-of}
+use Rattle.request.specs.Codes.{which-of, policy-of, mode-of, max-of}
 use Rattle.request.specs.declared.Which.{Which}
+use Rattle.request.specs.declared.Policy.{Policy}
 use Rattle.request.specs.declared.Mode.{Mode}
 use Rattle.request.specs.declared.Max.{Max}
 use Rattle.context.specs.Codes.{context-of, why-context}
@@ -48,10 +49,10 @@ why-measure-is x o first np second nk c t e q f = f ∙ sym (ap why-measure e)
 
 -- a stage begins at a place of the message
 module _ (m : List ℕ) (h : length m < 4294967296) where
-  pub opening-near : (which : Which) (s : ℕ) (a : OpeningAnswer) → a ≡ opening-of (at (read-opening (which-of which)) m s) → (o : Opening) (t : ℕ) → a ≡ opening.Is o t → t < 4294967296
-  opening-near which s a is o t b =
-      let z = opening-got (at (read-opening (which-of which)) m s) a is o t b in
-      let y = opening-within (which-of which) .ends m s (z .item) t (z .is) in
+  pub opening-near : (which : Which) (policy : Policy) (s : ℕ) (a : OpeningAnswer) → a ≡ opening-of (at (read-opening (which-of which) (policy-of policy)) m s) → (o : Opening) (t : ℕ) → a ≡ opening.Is o t → t < 4294967296
+  opening-near which policy s a is o t b =
+      let z = opening-got (at (read-opening (which-of which) (policy-of policy)) m s) a is o t b in
+      let y = opening-within (which-of which) (policy-of policy) .ends m s (z .item) t (z .is) in
       omega arith
 
   pub context-near : (mode : Mode) (s : ℕ) (a : ContextAnswer) → a ≡ context-of (at (read-aad-section (mode-of mode)) m s) → (n t : ℕ) → a ≡ context.Accepted n t → t < 4294967296
@@ -60,29 +61,29 @@ module _ (m : List ℕ) (h : length m < 4294967296) where
   pub keys-near : (max : Max) (s : ℕ) (a : KeysAnswer) → a ≡ keys-of (at (read-encrypted-data-keys-section (max-of max)) m s) → (n t : ℕ) → a ≡ key.Accepted n t → t < 4294967296
   keys-near max s a is n t b = let y = keys.had max m s a is n t b .within in omega arith
 
-module _ (which : Which) (mode : Mode) (max : Max) (m : List ℕ) (start : ℕ) where
+module _ (policy : Policy) (which : Which) (mode : Mode) (max : Max) (m : List ℕ) (start : ℕ) where
   -- whatever the tables
   abbrev asks : ℕ → ℕ → Request
-  asks pairRoom keyRoom = request (which-of which) (mode-of mode) (tests-frames (which-of which)) (max-of max) pairRoom keyRoom
+  asks pairRoom keyRoom = request-under (policy-of policy) (which-of which) (mode-of mode) (tests-frames (which-of which)) (max-of max) pairRoom keyRoom
 
-  no-body : (k p : ℕ) → ((pairRoom keyRoom : ℕ) → at (read-body (asks pairRoom keyRoom)) m start ≡ refused k p) → (w : Refusal) → w ≡ because k p → Measured which mode max m start (measure.Not w)
-  unfolding read-header-body
+  no-body : (k p : ℕ) → ((pairRoom keyRoom : ℕ) → at (read-body (asks pairRoom keyRoom)) m start ≡ refused k p) → (w : Refusal) → w ≡ because k p → Measured policy which mode max m start (measure.Not w)
+  unfolding read-header-body-under
   no-body k p e w f =
       record {
         refuses = λ q b pairRoom keyRoom. let z : because k p ≡ q = cc in e pairRoom keyRoom ∙ rw (← z);
         accepts = λ o first np second nk c tail b. let z : _≡_ {A = ℕ} 0 1 = cc in absurd (omega arith);
       }
 
-  module _ (a : OpeningAnswer) (a-is : a ≡ opening-of (at (read-opening (which-of which)) m start)) where
-    pub measure-no-opening : (q : Refusal) → a ≡ opening.Not q → (w : Refusal) → w ≡ why-opening a → Measured which mode max m start (measure.Not w)
+  module _ (a : OpeningAnswer) (a-is : a ≡ opening-of (at (read-opening (which-of which) (policy-of policy)) m start)) where
+    pub measure-no-opening : (q : Refusal) → a ≡ opening.Not q → (w : Refusal) → w ≡ why-opening a → Measured policy which mode max m start (measure.Not w)
     measure-no-opening q b w f =
-        no-body (q .number) (q .position) (λ pr kr. at-opening (asks pr kr) m start _ _ (opening-no (at (read-opening (which-of which)) m start) a a-is q b)) w (f ∙ ap why-opening b)
+        no-body (q .number) (q .position) (λ pr kr. at-opening (asks pr kr) m start _ _ (opening-no (at (read-opening (which-of which) (policy-of policy)) m start) a a-is q b)) w (f ∙ ap why-opening b)
 
     module _ (o : Opening) (first : ℕ) (a-got : a ≡ opening.Is o first) (b : ContextAnswer) (b-is : b ≡ context-of (at (read-aad-section (mode-of mode)) m first)) where
-      opened : OpeningHad (at (read-opening (which-of which)) m start) o first
-      opened = opening-got (at (read-opening (which-of which)) m start) a a-is o first a-got
+      opened : OpeningHad (at (read-opening (which-of which) (policy-of policy)) m start) o first
+      opened = opening-got (at (read-opening (which-of which) (policy-of policy)) m start) a a-is o first a-got
 
-      pub measure-no-context : (q : Refusal) → b ≡ context.Refused q → (w : Refusal) → w ≡ why-context b → Measured which mode max m start (measure.Not w)
+      pub measure-no-context : (q : Refusal) → b ≡ context.Refused q → (w : Refusal) → w ≡ why-context b → Measured policy which mode max m start (measure.Not w)
       measure-no-context q e w f =
           no-body (q .number) (q .position)
           (λ pr kr. at-context (asks pr kr) m start (opened .item) first (opened .is) _ _ (context-no (at (read-aad-section (mode-of mode)) m first) b b-is q e))
@@ -92,7 +93,7 @@ module _ (which : Which) (mode : Mode) (max : Max) (m : List ℕ) (start : ℕ) 
         paired : pairs.Had mode m first np second
         paired = pairs.had mode m first b b-is np second b-got
 
-        pub measure-no-keys : (q : Refusal) → c ≡ key.Refused q → (w : Refusal) → w ≡ why-keys c → Measured which mode max m start (measure.Not w)
+        pub measure-no-keys : (q : Refusal) → c ≡ key.Refused q → (w : Refusal) → w ≡ why-keys c → Measured policy which mode max m start (measure.Not w)
         measure-no-keys q e w f =
             no-body (q .number) (q .position)
             (λ pr kr. at-keys (asks pr kr) m start (opened .item) first (opened .is) (paired .items) second (paired .is) _ _ (keys-no (at (read-encrypted-data-keys-section (max-of max)) m second) c c-is q e))
@@ -105,7 +106,7 @@ module _ (which : Which) (mode : Mode) (max : Max) (m : List ℕ) (start : ℕ) 
           d-read : d ≡ closing-of (at (read-closing (eqb (opened .item .version) 1)) m third)
           d-read = d-is ∙ ap (λ (x : Opening). closing-of (at (read-closing (eqb (x .version) 1)) m third)) (sym (opened .coded))
 
-          pub measure-no-closing : (q : Refusal) → d ≡ closing.Not q → (w : Refusal) → w ≡ why-closing d → Measured which mode max m start (measure.Not w)
+          pub measure-no-closing : (q : Refusal) → d ≡ closing.Not q → (w : Refusal) → w ≡ why-closing d → Measured policy which mode max m start (measure.Not w)
           measure-no-closing q e w f =
               no-body (q .number) (q .position)
               (λ pr kr. at-closing (asks pr kr) m start (opened .item) first (opened .is) (paired .items) second (paired .is) (keyed .items) third (keyed .is) _ _ (closing-no (at (read-closing (eqb (opened .item .version) 1)) m third) d d-read q e))
@@ -118,13 +119,13 @@ module _ (which : Which) (mode : Mode) (max : Max) (m : List ℕ) (start : ℕ) 
             tested : not (tests-frames (which-of which)) || frame-fits (closed .item .contentType) (closed .item .frameLength) ≡ g
             tested = sym (g-is ∙ ap (λ (y : Closing). frame-test which (y .contentType) (y .frameLength)) (sym (closed .coded)))
 
-            pub measure-20 : g ≡ false → (w : Refusal) → w ≡ because 20 0 → Measured which mode max m start (measure.Not w)
+            pub measure-20 : g ≡ false → (w : Refusal) → w ≡ because 20 0 → Measured policy which mode max m start (measure.Not w)
             measure-20 e w f =
                 no-body 20 0
                 (λ pr kr. at-20 (asks pr kr) m start (opened .item) first (opened .is) (paired .items) second (paired .is) (keyed .items) third (keyed .is) (closed .item) tail (closed .is) (tested ∙ e))
                 w f
 
-            pub measure-whole : g ≡ true → Measured which mode max m start (measure.Is o first np second nk x tail)
+            pub measure-whole : g ≡ true → Measured policy which mode max m start (measure.Is o first np second nk x tail)
             measure-whole e =
                 record {
                   refuses = λ q b pr kr. let z : _≡_ {A = ℕ} 0 1 = cc in absurd (omega arith);

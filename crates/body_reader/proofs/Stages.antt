@@ -36,14 +36,14 @@ module _ (mode : Mode) (m : List ℕ) (s : ℕ) where
   marked-go ps t e = go (mark s) (context-tidy mode) m s ps t e
 
 module _ (q : Request) (m : List ℕ) (s : ℕ) where
-  pub at-opening : (k p : ℕ) → at (read-opening (q .which)) m s ≡ refused k p → at (read-body q) m s ≡ refused k p
+  pub at-opening : (k p : ℕ) → at (read-opening (q .which) (q .policy)) m s ≡ refused k p → at (read-body q) m s ≡ refused k p
   unfolding read-body
-  at-opening k p e = stop _ (opening-tidy (q .which)) m s k p e
+  at-opening k p e = stop _ (opening-tidy (q .which) (q .policy)) m s k p e
 
-  module _ (o : Opening) (first : ℕ) (opened : at (read-opening (q .which)) m s ≡ accepted o first) where
+  module _ (o : Opening) (first : ℕ) (opened : at (read-opening (q .which) (q .policy)) m s ≡ accepted o first) where
     pub at-context : (k p : ℕ) → at (read-aad-section (q .mode)) m first ≡ refused k p → at (read-body q) m s ≡ refused k p
     unfolding read-body after-opening
-    at-context k p e = go _ (opening-tidy (q .which)) m s o first opened ∙ stop _ (marked-tidy (q .mode)) m first k p (marked-stop (q .mode) m first k p e)
+    at-context k p e = go _ (opening-tidy (q .which) (q .policy)) m s o first opened ∙ stop _ (marked-tidy (q .mode)) m first k p (marked-stop (q .mode) m first k p e)
 
     module _ (ps : List PairAt) (second : ℕ) (paired : at (read-aad-section (q .mode)) m first ≡ accepted ps second) where
       abbrev x : ContextAt
@@ -51,7 +51,7 @@ module _ (q : Request) (m : List ℕ) (s : ℕ) where
 
       behind-context : at (read-body q) m s ≡ at (after-context q o x) m second
       unfolding read-body after-opening
-      behind-context = go _ (opening-tidy (q .which)) m s o first opened ∙ go _ (marked-tidy (q .mode)) m first x second (marked-go (q .mode) m first ps second paired)
+      behind-context = go _ (opening-tidy (q .which) (q .policy)) m s o first opened ∙ go _ (marked-tidy (q .mode)) m first x second (marked-go (q .mode) m first ps second paired)
 
       pub at-keys : (k p : ℕ) → at (read-encrypted-data-keys-section (q .max)) m second ≡ refused k p → at (read-body q) m s ≡ refused k p
       unfolding after-context

@@ -11,12 +11,13 @@ use Rattle.format.specs.Fields.{form-number}
 use Rattle.format.specs.Fields.{HeaderBody as BodyRead}
 use Rattle.format.specs.Context.{read-aad-section}
 use Rattle.format.specs.Keys.{read-encrypted-data-keys-section}
-use Rattle.format.specs.Body.{tests-frames, read-opening, read-closing, read-header-body}
+use Rattle.format.specs.Body.{tests-frames, read-opening, read-closing, read-header-body-under}
 use Rattle.format.specs.Lent.{pair-table-after, key-table-after}
 use Rattle.wire.specs.Codes.{because}
 use Rattle.wire.specs.declared.Refusal.{Refusal}
-use Rattle.request.specs.Codes.{which-of, mode-of, max-of}
+use Rattle.request.specs.Codes.{which-of, policy-of, mode-of, max-of}
 use Rattle.request.specs.declared.Which.{Which}
+use Rattle.request.specs.declared.Policy.{Policy}
 use Rattle.request.specs.declared.Mode.{Mode}
 use Rattle.request.specs.declared.Max.{Max}
 use Rattle.fields.specs.declared.BodyNumbers.{BodyNumbers}
@@ -104,15 +105,15 @@ why-measure (measure.Is o a np b nk c t) = because 0 0
 why-measure (measure.Not r) = r
 
 -- a body stands at s, its tables left aside: each part of it stands where the one before it ends
-pub record Stages (which : Which) (mode : Mode) (max : Max) (m : List ℕ) (s : ℕ) (o : Opening) (first np second nk : ℕ) (c : Closing) (tail : ℕ) : Type 0 where
+pub record Stages (policy : Policy) (which : Which) (mode : Mode) (max : Max) (m : List ℕ) (s : ℕ) (o : Opening) (first np second nk : ℕ) (c : Closing) (tail : ℕ) : Type 0 where
   pub third : ℕ
-  pub opens : opening-of (at (read-opening (which-of which)) m s) ≡ opening.Is o first
+  pub opens : opening-of (at (read-opening (which-of which) (policy-of policy)) m s) ≡ opening.Is o first
   pub pairs : context-of (at (read-aad-section (mode-of mode)) m first) ≡ context.Accepted np second
   pub keys : keys-of (at (read-encrypted-data-keys-section (max-of max)) m second) ≡ keys.Accepted nk third
   pub closes : closing-of (at (read-closing (eqb (o .version) 1)) m third) ≡ closing.Is c tail
   pub fits : frame-test which (c .contentType) (c .frameLength) ≡ true
 
 -- the contract of measuring: a refusal is the body's, whatever the tables
-pub record Measured (which : Which) (mode : Mode) (max : Max) (m : List ℕ) (s : ℕ) (r : MeasureAnswer) : Type 0 where
-  pub refuses : (q : Refusal) → r ≡ measure.Not q → (pairRoom keyRoom : ℕ) → at (read-header-body (which-of which) (mode-of mode) (max-of max) pairRoom keyRoom) m s ≡ refused (q .number) (q .position)
-  pub accepts : (o : Opening) (first np second nk : ℕ) (c : Closing) (tail : ℕ) → r ≡ measure.Is o first np second nk c tail → Stages which mode max m s o first np second nk c tail
+pub record Measured (policy : Policy) (which : Which) (mode : Mode) (max : Max) (m : List ℕ) (s : ℕ) (r : MeasureAnswer) : Type 0 where
+  pub refuses : (q : Refusal) → r ≡ measure.Not q → (pairRoom keyRoom : ℕ) → at (read-header-body-under (policy-of policy) (which-of which) (mode-of mode) (max-of max) pairRoom keyRoom) m s ≡ refused (q .number) (q .position)
+  pub accepts : (o : Opening) (first np second nk : ℕ) (c : Closing) (tail : ℕ) → r ≡ measure.Is o first np second nk c tail → Stages policy which mode max m s o first np second nk c tail

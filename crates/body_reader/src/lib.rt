@@ -21,9 +21,9 @@ ghost use lib.ListN.{length};
 ghost use Rattle.format.specs.Read.{at, operation};
 ghost use Rattle.format.specs.Fields.{form-number};
 ghost use Rattle.format.specs.Context.{form-ending};
-ghost use Rattle.format.specs.Body.{read-header-body};
+ghost use Rattle.format.specs.Body.{read-header-body-under};
 ghost use Rattle.wire.specs.Codes.{because};
-ghost use Rattle.request.specs.Codes.{which-of, mode-of, max-of};
+ghost use Rattle.request.specs.Codes.{which-of, policy-of, mode-of, max-of};
 ghost use Rattle.body_reader.specs.Codes.{ReadsBody, Measured, body-with, frame-test, why-measure};
 
 // The ID and the suite data by their places in the message, and how many pairs and keys stand in the tables. Type, IV length
@@ -140,12 +140,13 @@ fn frame_passes(which: Which, contentType: u32, frameLength: u32) -> bool
 // The body at a place, its tables left aside: its tests up to 20.
 fn measure(m: &[u8], start: u64, request: Request) -> MeasureAnswer
     requires { ⌜ (start < 4294967296) × (length (now m) < 4294967296) ⌝ }
-    ensures { λ r. ⌜ Measured (request .which) (request .mode) (request .max) (now (m .entry)) start r ⌝ }
+    ensures { λ r. ⌜ Measured (request .policy) (request .which) (request .mode) (request .max) (now (m .entry)) start r ⌝ }
 {
     let which = request.which;
+    let policy = request.policy;
     let mode = request.mode;
     let max = request.max;
-    let a = ends::read_opening(m, start, which);
+    let a = ends::read_opening(m, start, which, policy);
     let OpeningAnswer::Is { opening, tail: aad } = a else {
         return MeasureAnswer::Not(a.refusal());
     };
@@ -192,7 +193,7 @@ fn body_at(
     keyTable: &mut [u32],
 ) -> HeaderBodyAnswer
     requires { ⌜ (start < 4294967296) × (length (now m) < 4294967296) ⌝ }
-    ensures { λ r. ⌜ ReadsBody (at (read-header-body (which-of (request .which)) (mode-of (request .mode)) (max-of (request .max)) (length (now (pairTable .entry))) (length (now (keyTable .entry)))) (now (m .entry)) start) (now (pairTable .entry)) (now (pairTable .exit)) (now (keyTable .entry)) (now (keyTable .exit)) r ⌝ }
+    ensures { λ r. ⌜ ReadsBody (at (read-header-body-under (policy-of (request .policy)) (which-of (request .which)) (mode-of (request .mode)) (max-of (request .max)) (length (now (pairTable .entry))) (length (now (keyTable .entry)))) (now (m .entry)) start) (now (pairTable .entry)) (now (pairTable .exit)) (now (keyTable .entry)) (now (keyTable .exit)) r ⌝ }
 {
     let a = measure(m, start, request);
     let MeasureAnswer::Is {
@@ -231,7 +232,7 @@ pub fn read_header_body(
     pairTable: &mut [u32],
     keyTable: &mut [u32],
 ) -> HeaderBodyAnswer
-    ensures { λ r. ⌜ ReadsBody (operation (read-header-body (which-of (request .which)) (mode-of (request .mode)) (max-of (request .max)) (length (now (pairTable .entry))) (length (now (keyTable .entry)))) (now (m .entry)) start) (now (pairTable .entry)) (now (pairTable .exit)) (now (keyTable .entry)) (now (keyTable .exit)) r ⌝ }
+    ensures { λ r. ⌜ ReadsBody (operation (read-header-body-under (policy-of (request .policy)) (which-of (request .which)) (mode-of (request .mode)) (max-of (request .max)) (length (now (pairTable .entry))) (length (now (keyTable .entry)))) (now (m .entry)) start) (now (pairTable .entry)) (now (pairTable .exit)) (now (keyTable .entry)) (now (keyTable .exit)) r ⌝ }
 {
     if reading::is_addressable(m, start) {
         return body_at(m, start, request, pairTable, keyTable);

@@ -8,8 +8,9 @@ use lib.Dec.{eqb}
 use lib.ListN.{length}
 use borrow.Author.Tests.{eqb-true}
 use Rattle.format.specs.Shared.{by}
-use Rattle.format.specs.Checks.{Check, first, opening-checks, closing-checks, form-checks, body-checks}
-use Rattle.format.specs.Lent.{pair-in, fields-to-write, writing-aad-section, writing-encrypted-data-keys-section, writing-header-body}
+use Rattle.format.specs.Checks.{Check, first, opening-checks, closing-checks, form-checks, body-checks-under}
+use Rattle.format.specs.Policies.{no-policy}
+use Rattle.format.specs.Lent.{pair-in, fields-to-write, writing-aad-section, writing-encrypted-data-keys-section, writing-header-body-under, writing-header-body}
 use Rattle.format.proofs.Firsts.{holds}
 use Rattle.format.proofs.Tables.{items-length}
 use Rattle.wire.specs.declared.Refusal.{Refusal}
@@ -29,7 +30,7 @@ use Rattle.body_write.proofs.VersionLaws.{one-or-two-small, by-small}
 
 module _ (n : BodyNumbers) (messageId suiteData text pairs keys : List ℕ) where
   abbrev opens : List Check
-  opens = opening-checks (n .version) (n .messageType) (n .suite) (length messageId)
+  opens = opening-checks no-policy (n .version) (n .messageType) (n .suite) (length messageId)
 
   abbrev closes : List Check
   closes = closing-checks (n .version) (n .contentType) (n .headerIvLength) (length suiteData) (n .frameLength)
@@ -44,11 +45,11 @@ module _ (n : BodyNumbers) (messageId suiteData text pairs keys : List ℕ) wher
   of-keys = writing-encrypted-data-keys-section text keys .checks
 
   stages : writing-header-body (body-to-write n messageId suiteData text pairs keys) .checks ≡ opens ++ (of-pairs ++ (of-form ++ (of-keys ++ closes)))
-  unfolding body-to-write writing-header-body fields-to-write body-checks writing-aad-section writing-encrypted-data-keys-section
+  unfolding body-to-write writing-header-body-under fields-to-write body-checks-under writing-aad-section writing-encrypted-data-keys-section
   stages = rw (items-length (pair-in text pairs) 4 (length pairs / 4) 0) refl
 
   -- the ways out
-  module _ (a : Checked) (aIs : a ≡ checked (first (opening-checks (n .version) (n .messageType) (n .suite) (length messageId)))) where
+  module _ (a : Checked) (aIs : a ≡ checked (first (opening-checks no-policy (n .version) (n .messageType) (n .suite) (length messageId)))) where
     pub body-opening : (r : Refusal) → a ≡ Fails r → Fails r ≡ checked (first (writing-header-body (body-to-write n messageId suiteData text pairs keys) .checks))
     body-opening r e = rw stages (sym (stage-fails opens a aIs _ r e))
 
@@ -114,7 +115,7 @@ module _ (n : BodyNumbers) (messageId suiteData text pairs keys : List ℕ) wher
     iv-small = by-small (eqb (n .version) 1) 12 0 _ (eqb-true _ _ (holds closes closed .1 .0)) (omega arith) (omega arith)
 
     pub id-long : length messageId ≡ by (n .version) 16 32
-    id-long = eqb-true _ _ (holds opens opened .1 .1 .1 .1 .0)
+    id-long = eqb-true _ _ (holds opens opened .1 .1 .1 .1 .1 .0)
 
     pub data-long : length suiteData ≡ by (n .version) 0 32
     data-long = eqb-true _ _ (holds closes closed .1 .1 .0)

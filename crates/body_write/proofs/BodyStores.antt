@@ -12,7 +12,7 @@ use Rattle.format.specs.Fields.{Form as Mark}
 use Rattle.format.specs.Body.{image}
 use Rattle.format.specs.Checks.{first}
 use Rattle.format.specs.Context.{section-in}
-use Rattle.format.specs.Lent.{pairs-in, fields-to-write, writing-encrypted-data-keys-section, writing-header-body}
+use Rattle.format.specs.Lent.{pairs-in, fields-to-write, writing-encrypted-data-keys-section, writing-header-body-under, writing-header-body}
 use Rattle.wire.specs.Stored.{stored}
 use Rattle.wire.proofs.StoreLaws.{stored-tail}
 use Rattle.checks.proofs.Writers.{chain, still-long}
@@ -40,7 +40,7 @@ module _ (n : BodyNumbers) (messageId suiteData text pairs keys : List ℕ) wher
   sections = section-in mark (pairs-in text pairs) ++ writing-encrypted-data-keys-section text keys .image
 
   image-is : writing-header-body (body-to-write n messageId suiteData text pairs keys) .image ≡ opening ++ (sections ++ closing)
-  unfolding body-to-write writing-header-body fields-to-write image writing-encrypted-data-keys-section write-opening write-closing
+  unfolding body-to-write writing-header-body-under fields-to-write image writing-encrypted-data-keys-section write-opening write-closing
   image-is = ap (λ (l : List ℕ). opening ++ l) (sym (append-assoc (section-in mark (pairs-in text pairs)) (writing-encrypted-data-keys-section text keys .image) closing))
 
   module _ (size room : ℕ) (r : BodyReady n size messageId suiteData text pairs keys room) where

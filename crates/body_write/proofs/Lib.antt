@@ -1,5 +1,6 @@
 pub mod VersionLaws
 pub mod SuiteLaws
+pub mod PolicyLaws
 pub mod Ends
 pub mod FormLaws
 pub mod BodyChecks

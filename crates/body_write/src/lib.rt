@@ -13,10 +13,12 @@ use checks::refuses;
 use fields::BodyNumbers;
 use fields::Form;
 use fields::form_named;
+use request::Policy;
 use section_write::aad_section_size;
 use section_write::keys_section_size;
 use section_write::put_aad_section;
 use section_write::put_keys_section;
+use wire::refusals::FORBIDDEN_BY_POLICY;
 use wire::refusals::OUTPUT_TOO_SHORT;
 use wire::refusals::PAIR_IN_OLD_FORM;
 ghost use mathlib.Core.Path.{_≡_};
@@ -25,9 +27,10 @@ ghost use Prim.Native.Nat.{_+_};
 ghost use lib.ListN.{length};
 ghost use Rattle.format.specs.Context.{section-in};
 ghost use Rattle.format.specs.Checks.{first, form-checks};
-ghost use Rattle.format.specs.Lent.{pairs-in, size-of, writing-encrypted-data-keys-section, writing-header-body};
+ghost use Rattle.format.specs.Lent.{pairs-in, size-of, writing-encrypted-data-keys-section, writing-header-body-under, writing-header-body};
 ghost use Rattle.wire.specs.Stored.{stored};
 ghost use Rattle.checks.specs.Answers.{checked, write-answer-of, Writes};
+ghost use Rattle.request.specs.Codes.{policy-of};
 ghost use Rattle.fields.specs.Codes.{form-of};
 ghost use Rattle.body_write.specs.Lent.{body-to-write};
 ghost use Rattle.body_write.specs.Ready.{body-size, Small, SectionsReady, BodyReady};
@@ -173,4 +176,41 @@ pub fn write_header_body(
             WriteAnswer::Written(size)
         }
     }
+}
+
+// What header_body_len tells, but 39 where the policy forbids the version and nothing up to 7 applies.
+pub fn header_body_len_under(
+    numbers: BodyNumbers,
+    policy: Policy,
+    messageId: &[u8],
+    suiteData: &[u8],
+    text: &[u8],
+    pairs: &[u32],
+    keys: &[u32],
+) -> WriteAnswer
+    ensures { λ r. ⌜ r ≡ write-answer-of (size-of (writing-header-body-under (policy-of policy) (body-to-write numbers (now (messageId .entry)) (now (suiteData .entry)) (now (text .entry)) (now (pairs .entry)) (now (keys .entry))))) ⌝ }
+{
+    if opening::forbids(policy, numbers.version, numbers.messageType, numbers.suite) {
+        return refuses(FORBIDDEN_BY_POLICY);
+    }
+    header_body_len(numbers, messageId, suiteData, text, pairs, keys)
+}
+
+// Write a body under a policy: likewise.
+pub fn write_header_body_under(
+    numbers: BodyNumbers,
+    policy: Policy,
+    messageId: &[u8],
+    suiteData: &[u8],
+    text: &[u8],
+    pairs: &[u32],
+    keys: &[u32],
+    out: &mut [u8],
+) -> WriteAnswer
+    ensures { λ r. ⌜ Writes (writing-header-body-under (policy-of policy) (body-to-write numbers (now (messageId .entry)) (now (suiteData .entry)) (now (text .entry)) (now (pairs .entry)) (now (keys .entry)))) (now (out .entry)) (now (out .exit)) r ⌝ }
+{
+    if opening::forbids(policy, numbers.version, numbers.messageType, numbers.suite) {
+        return refuses(FORBIDDEN_BY_POLICY);
+    }
+    write_header_body(numbers, messageId, suiteData, text, pairs, keys, out)
 }

@@ -3,6 +3,7 @@ use super::versions::is_by;
 use checks::Checked;
 use checks::fails;
 use fields::is_one_or_two;
+use request::Policy;
 use suites::Suite;
 use suites::SuiteAnswer;
 use wire::refusals::ID_LENGTH;
@@ -19,14 +20,17 @@ ghost use Prim.Native.Nat.{_+_, _≤_, _<_};
 ghost use lib.Dec.{eqb};
 ghost use lib.ListN.{length};
 ghost use Rattle.format.specs.Shared.{by};
-ghost use Rattle.format.specs.Checks.{first, opening-checks};
+ghost use Rattle.format.specs.Policies.{no-policy};
+ghost use Rattle.format.specs.Checks.{first, lead-checks, opening-checks};
+ghost use Rattle.format.specs.UnderPolicy.{forbids-checked};
 ghost use Rattle.wire.specs.Stored.{stored};
 ghost use Rattle.checks.specs.Answers.{checked};
+ghost use Rattle.request.specs.Codes.{policy-of};
 ghost use Rattle.body_write.specs.Lent.{write-opening};
 
-// 3; 5; 6; 7; 24, by the ID's length.
-pub fn check_opening(version: u32, kind: u32, suite: u32, id: usize) -> Checked
-    ensures { λ r. ⌜ r ≡ checked (first (opening-checks version kind suite id)) ⌝ }
+// 3; 5; 6; 7.
+fn check_lead(version: u32, kind: u32, suite: u32) -> Checked
+    ensures { λ r. ⌜ r ≡ checked (first (lead-checks version kind suite)) ⌝ }
 {
     if !is_one_or_two(version) {
         return fails(UNKNOWN_VERSION);
@@ -41,10 +45,35 @@ pub fn check_opening(version: u32, kind: u32, suite: u32, id: usize) -> Checked
     if known.version as u32 != version {
         return fails(SUITE_OF_OTHER_VERSION);
     }
+    Checked::Passes
+}
+
+// These; 24, by the ID's length.
+pub fn check_opening(version: u32, kind: u32, suite: u32, id: usize) -> Checked
+    ensures { λ r. ⌜ r ≡ checked (first (opening-checks no-policy version kind suite id)) ⌝ }
+{
+    let a = check_lead(version, kind, suite);
+    if let Checked::Fails(r) = a {
+        return Checked::Fails(r);
+    }
     if !is_by(version, id, 16, 32) {
         return fails(ID_LENGTH);
     }
     Checked::Passes
+}
+
+// Whether the policy forbids the version where 3, 5, 6 and 7 don't apply: 39.
+pub fn forbids(policy: Policy, version: u32, kind: u32, suite: u32) -> bool
+    ensures { λ r. ⌜ r ≡ forbids-checked (policy-of policy) version (first (lead-checks version kind suite)) ⌝ }
+{
+    if policy.lets_write(version) {
+        return false;
+    }
+    let a = check_lead(version, kind, suite);
+    match a {
+        Checked::Passes => true,
+        Checked::Fails(_) => false,
+    }
 }
 
 // How many bytes it takes: the place of the context section.

@@ -9,7 +9,8 @@ use lib.ListN.{length}
 use Rattle.format.specs.Read.{Reader, _>>=_, accepted, at}
 use Rattle.format.specs.Serialize.{read-uint8, read-uint16, read-uint32}
 use Rattle.format.specs.Shared.{read-message-format-version, read-esdk-suite-id, read-content-type}
-use Rattle.format.specs.Body.{Which, read-opening-of, read-opening, read-closing-of, read-closing}
+use Rattle.format.specs.Policies.{Policy}
+use Rattle.format.specs.Body.{Which, Lead, read-lead-of, read-lead, after-lead, read-opening, read-closing-of, read-closing}
 use Rattle.steps.proofs.Tidy.{Tidy, tidy, bind-tidy, then-tidy, test-tidy, uint8-tidy, uint16-tidy, uint32-tidy}
 use Rattle.steps.proofs.Steps.{un-bind, inside}
 use Rattle.steps.proofs.Numbers.{uint8-known, uint16-known, uint32-known}
@@ -26,14 +27,22 @@ pub content-tidy : Tidy read-content-type
 unfolding read-content-type
 content-tidy = search tidy depth 20
 
-opening-of-tidy : (v1 : Bool) → Tidy (read-opening-of v1)
-unfolding read-opening-of
-opening-of-tidy true = search (suite-tidy, tidy) depth 20
-opening-of-tidy false = search (suite-tidy, tidy) depth 20
+lead-of-tidy : (v1 : Bool) → Tidy (read-lead-of v1)
+unfolding read-lead-of
+lead-of-tidy true = search (suite-tidy, tidy) depth 20
+lead-of-tidy false = search (suite-tidy, tidy) depth 20
 
-pub opening-tidy : (which : Which) → Tidy (read-opening which)
+pub lead-tidy : (which : Which) → Tidy (read-lead which)
+unfolding read-lead
+lead-tidy which = search (version-tidy, lead-of-tidy, tidy) depth 20
+
+after-lead-tidy : (policy : Policy) (l : Lead) → Tidy (after-lead policy l)
+unfolding after-lead
+after-lead-tidy policy l = search tidy depth 20
+
+pub opening-tidy : (which : Which) (policy : Policy) → Tidy (read-opening which policy)
 unfolding read-opening
-opening-tidy which = search (version-tidy, opening-of-tidy, tidy) depth 20
+opening-tidy which policy = search (lead-tidy, after-lead-tidy, tidy) depth 20
 
 closing-of-tidy : (v1 : Bool) (content : ℕ) → Tidy (read-closing-of v1 content)
 unfolding read-closing-of
@@ -73,9 +82,13 @@ pub content-within : Within read-content-type
 unfolding read-content-type
 content-within = search (bind-within, uint8-within, tidy) depth 20
 
-pub opening-within : (which : Which) → Within (read-opening which)
+pub lead-within : (which : Which) → Within (read-lead which)
+unfolding read-lead
+lead-within which = search (bind-within, version-within, version-tidy, lead-of-tidy, tidy) depth 20
+
+pub opening-within : (which : Which) (policy : Policy) → Within (read-opening which policy)
 unfolding read-opening
-opening-within which = search (bind-within, version-within, version-tidy, opening-of-tidy, tidy) depth 20
+opening-within which policy = search (bind-within, lead-within, lead-tidy, after-lead-tidy, tidy) depth 20
 
 pub closing-within : (v1 : Bool) → Within (read-closing v1)
 unfolding read-closing

@@ -2,11 +2,14 @@
 use Prim.Native.Nat.{ℕ}
 use lib.ListN.{length}
 use Rattle.format.specs.Read.{Reader, _>>=_, _>>_, return, test, Answer, accepted, refused}
-use Rattle.format.specs.Serialize.{read, read-uint8}
+use Rattle.format.specs.Serialize.{read-uint8}
 use Rattle.format.specs.Shared.{one-or-two, read-esdk-suite-id}
-use Rattle.format.specs.Body.{Opening as OpeningRead, Closing as ClosingRead}
+use Rattle.format.specs.Body.{Lead as LeadRead, Opening as OpeningRead, Closing as ClosingRead}
 use Rattle.wire.specs.Codes.{because}
 use Rattle.wire.specs.declared.Refusal.{Refusal}
+use Rattle.ends.specs.declared.Lead.{Lead}
+use Rattle.ends.specs.declared.LeadAnswer.{LeadAnswer}
+use Rattle.ends.specs.declared.LeadAnswer.the-variants as lead
 use Rattle.ends.specs.declared.Opening.{Opening}
 use Rattle.ends.specs.declared.OpeningAnswer.{OpeningAnswer}
 use Rattle.ends.specs.declared.OpeningAnswer.the-variants as opening
@@ -21,12 +24,18 @@ read-one-or-two k = do
   test k (one-or-two x)
   return x
 
--- the suite and an ID of that many bytes, behind a version and a type
-unfoldable pub read-suite-and-id : ℕ → ℕ → ℕ → Reader OpeningRead
-read-suite-and-id version messageType size = do
+-- the suite, behind a version and a type
+unfoldable pub read-suite : ℕ → ℕ → Reader LeadRead
+read-suite version messageType = do
   suite ← read-esdk-suite-id version
-  messageId ← read size
-  return (record { version = version; messageType = messageType; suite = suite; messageId = messageId })
+  return (record { version = version; messageType = messageType; suite = suite })
+
+abbrev pub lead-code : LeadRead → Lead
+lead-code l = record { version = l .version; messageType = l .messageType; suite = l .suite }
+
+abbrev pub lead-of : Answer LeadRead → LeadAnswer
+lead-of (accepted l t) = lead.Is (lead-code l) t
+lead-of (refused k p) = lead.Not (because k p)
 
 abbrev pub opening-code : OpeningRead → Opening
 opening-code o =
@@ -57,6 +66,10 @@ closing-of (accepted c t) = closing.Is (closing-code c) t
 closing-of (refused k p) = closing.Not (because k p)
 
 -- the refusal that an answer carries; 0 where it is none
+abbrev pub why-lead : LeadAnswer → Refusal
+why-lead (lead.Is l t) = because 0 0
+why-lead (lead.Not r) = r
+
 abbrev pub why-opening : OpeningAnswer → Refusal
 why-opening (opening.Is o t) = because 0 0
 why-opening (opening.Not r) = r

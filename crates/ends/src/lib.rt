@@ -1,7 +1,9 @@
 // The two ends of a header body: the opening, which stands before the context section, and the closing, which stands behind
 // the key section.
+mod leading;
 mod shared;
 
+use request::Policy;
 use request::Which;
 use suites::Suite;
 use wire::Number;
@@ -16,10 +18,23 @@ ghost use Prim.Native.Nat.{_<_};
 ghost use lib.Dec.{eqb};
 ghost use lib.ListN.{length};
 ghost use Rattle.format.specs.Read.{at};
-ghost use Rattle.format.specs.Body.{asked, read-opening-of, read-opening, read-closing-of, read-closing};
+ghost use Rattle.format.specs.Shared.{id-length};
+ghost use Rattle.format.specs.Body.{read-opening, read-closing-of, read-closing};
 ghost use Rattle.wire.specs.Codes.{because};
-ghost use Rattle.request.specs.Codes.{which-of};
-ghost use Rattle.ends.specs.Codes.{read-suite-and-id, opening-of, closing-of, why-opening, why-closing};
+ghost use Rattle.request.specs.Codes.{which-of, policy-of};
+ghost use Rattle.ends.specs.Codes.{opening-of, closing-of, why-lead, why-opening, why-closing};
+
+// The leading fields, which stand before the message ID.
+struct Lead {
+    version: u32,
+    messageType: u32,
+    suite: u32,
+}
+
+enum LeadAnswer {
+    Is { lead: Lead, tail: u64 },
+    Not(Refusal),
+}
 
 // The ID by its place in the message.
 pub struct Opening {
@@ -47,6 +62,18 @@ pub struct Closing {
 pub enum ClosingAnswer {
     Is { closing: Closing, tail: u64 },
     Not(Refusal),
+}
+
+impl LeadAnswer {
+    // The refusal, where there is one.
+    fn refusal(self) -> Refusal
+        ensures { λ r. ⌜ r ≡ why-lead self ⌝ }
+    {
+        match self {
+            LeadAnswer::Is { lead: _, tail: _ } => refuse(refusals::NONE),
+            LeadAnswer::Not(r) => r,
+        }
+    }
 }
 
 impl OpeningAnswer {
@@ -91,31 +118,29 @@ fn no_closing(number: u8) -> ClosingAnswer
     ClosingAnswer::Not(refuse(number))
 }
 
-// Whether the version is asked for.
-fn is_asked(which: Which, version: u64) -> bool
-    ensures { λ r. ⌜ r ≡ asked (which-of which) version ⌝ }
+// How many bytes the message ID has.
+fn id_len(version: u32) -> u64
+    ensures { λ r. ⌜ (r ≡ id-length version) × (0 < r) × (r < 65536) ⌝ }
 {
-    match which {
-        Which::Either => true,
-        Which::V1Only => version == 1,
-        Which::V2Only => version == 2,
+    if version == 1 {
+        return 16;
     }
+    32
 }
 
-// What both versions have before the context section, behind the version and the type.
-fn read_suite_and_id(m: &[u8], s: u64, version: u32, messageType: u32, idLen: u64) -> OpeningAnswer
-    requires { ⌜ (s < 4294967296) × (length (now m) < 4294967296) × (0 < idLen) × (idLen < 65536) ⌝ }
-    ensures { λ r. ⌜ r ≡ opening-of (at (read-suite-and-id version messageType idLen) (now (m .entry)) s) ⌝ }
+// 39 right after the leading fields, before the ID is read.
+pub fn read_opening(m: &[u8], s: u64, which: Which, policy: Policy) -> OpeningAnswer
+    requires { ⌜ (s < 4294967296) × (length (now m) < 4294967296) ⌝ }
+    ensures { λ r. ⌜ r ≡ opening-of (at (read-opening (which-of which) (policy-of policy)) (now (m .entry)) s) ⌝ }
 {
-    let x = shared::read_esdk_suite_id(m, s, version);
-    let Number::Is {
-        value: suite,
-        tail: id,
-    } = x
-    else {
+    let x = leading::read_lead(m, s, which);
+    let LeadAnswer::Is { lead, tail: id } = x else {
         return OpeningAnswer::Not(x.refusal());
     };
-    let y = reading::read_some_bytes(m, id, idLen);
+    if !policy.lets_read(lead.version) {
+        return no_opening(refusals::FORBIDDEN_BY_POLICY);
+    }
+    let y = reading::read_some_bytes(m, id, id_len(lead.version));
     let Span::At {
         start: messageIdStart,
         len: messageIdLen,
@@ -125,61 +150,13 @@ fn read_suite_and_id(m: &[u8], s: u64, version: u32, messageType: u32, idLen: u6
         return OpeningAnswer::Not(y.refusal());
     };
     let opening = Opening {
-        version,
-        messageType,
-        suite: suite as u32,
+        version: lead.version,
+        messageType: lead.messageType,
+        suite: lead.suite,
         messageIdStart,
         messageIdLen,
     };
     OpeningAnswer::Is { opening, tail }
-}
-
-// Version 1, after the version byte.
-fn read_opening_v1(m: &[u8], s: u64) -> OpeningAnswer
-    requires { ⌜ (s < 4294967296) × (length (now m) < 4294967296) ⌝ }
-    ensures { λ r. ⌜ r ≡ opening-of (at (read-opening-of true) (now (m .entry)) s) ⌝ }
-{
-    let x = reading::read_u8(m, s);
-    let Number::Is {
-        value: messageType,
-        tail,
-    } = x
-    else {
-        return OpeningAnswer::Not(x.refusal());
-    };
-    if messageType == 0x80 {
-        return read_suite_and_id(m, tail, 1, 0x80, 16);
-    }
-    no_opening(refusals::MESSAGE_TYPE)
-}
-
-// Version 2, after the version byte.
-fn read_opening_v2(m: &[u8], s: u64) -> OpeningAnswer
-    requires { ⌜ (s < 4294967296) × (length (now m) < 4294967296) ⌝ }
-    ensures { λ r. ⌜ r ≡ opening-of (at (read-opening-of false) (now (m .entry)) s) ⌝ }
-{
-    read_suite_and_id(m, s, 2, 0, 32)
-}
-
-pub fn read_opening(m: &[u8], s: u64, which: Which) -> OpeningAnswer
-    requires { ⌜ (s < 4294967296) × (length (now m) < 4294967296) ⌝ }
-    ensures { λ r. ⌜ r ≡ opening-of (at (read-opening (which-of which)) (now (m .entry)) s) ⌝ }
-{
-    let x = shared::read_message_format_version(m, s);
-    let Number::Is {
-        value: version,
-        tail,
-    } = x
-    else {
-        return OpeningAnswer::Not(x.refusal());
-    };
-    if is_asked(which, version) {
-        if version == 1 {
-            return read_opening_v1(m, tail);
-        }
-        return read_opening_v2(m, tail);
-    }
-    no_opening(refusals::OTHER_VERSION)
 }
 
 // Version 1, after the content type: reserved bytes, the length of the IV, and no suite data.

@@ -14,8 +14,8 @@ use Rattle.format.specs.Shared.{one-or-two}
 use Rattle.format.specs.Fields.{Form, today, old, Pair, EncryptedDataKey, Fields, PairAt, EncryptedDataKeyAt, HeaderBody, pair-of, key-of, pair-places, key-places, fields-of}
 use Rattle.format.specs.Context.{tolerant, write-aad-pair, write-aad-pairs, write-aad-section, section-in}
 use Rattle.format.specs.Keys.{no-max, write-encrypted-data-key, write-encrypted-data-keys, write-encrypted-data-keys-section}
-use Rattle.format.specs.Body.{either, Request, request, read-body, read-header-body, write-opening-of, write-closing-of, image}
-use Rattle.format.specs.Refusals.{opening-refusals, section-refusals, reserved-refusals, frame-refusals, closing-refusals, key-section-refusals, body-refusals, Refusal}
+use Rattle.format.specs.Body.{either, Request, request, read-body, read-header-body-under, write-opening-of, write-closing-of, image}
+use Rattle.format.specs.Refusals.{lead-refusals, forbidden-refusals, passing, numbers-behind, opening-refusals, section-refusals, reserved-refusals, frame-refusals, closing-refusals, key-section-refusals, body-refusals, Refusal}
 use Rattle.format.specs.Demand3.{mark-by}
 use Rattle.format.proofs.Tests.{is-eqb}
 use Rattle.format.proofs.Serialize.{length-uint16, length-uint32, length-entry}
@@ -155,7 +155,7 @@ module _ (m : List ℕ) (hb : Bytes m) where
       let form = mark-by (z .0) (z .1 .pairs) in
       let v : z .1 .version ≡ b .version = sym (ap (λ (f : Fields). f .version) (z .3 .fields)) in
       let f : z .1 .frameLength ≡ b .frameLength = sym (ap (λ (f : Fields). f .frameLength) (z .3 .fields)) in
-      let version : z .1 .version < 10 = small-version (z .1 .version) (good form (z .1) (z .2 .accepts) .top .t3) in
+      let version : z .1 .version < 10 = small-version (z .1 .version) (good form (z .1) (z .2 .accepts) .top .lead .t3) in
       let frame = z .2 .accepts .frame-is-32-bits in
       let bytes : length m ≡ length (image form (z .1)) + length (z .2 .after) = ap length (z .2 .bytes) ∙ rw length-append in
       let tail : t ≡ 0 + length (image form (z .1)) = z .5 in
@@ -168,7 +168,7 @@ module _ (m : List ℕ) (hb : Bytes m) where
 
   -- a position that is wanted lies near behind the end of a message that is not too long, and any other is 0
   position-few : (k p : ℕ) → as-listed m 0 ≡ refused k p → Refusal (body-refusals asked) m k p → p < 10000000000
-  unfolding read-header-body
+  unfolding read-header-body-under
   position-few k p e h = by (eqb k 2) refl
     where
       by : (b : Bool) → eqb k 2 ≡ b → p < 10000000000
@@ -180,7 +180,7 @@ module _ (m : List ℕ) (hb : Bytes m) where
       by false q = let none : p ≡ 0 = h .otherwise-0 (eqb-false k 2 q) in omega arith
 
   answer-fits : (a : Answer HeaderBody) → as-listed m 0 ≡ a → length (listing-of a) ≤ 2 * length m + 28
-  unfolding read-header-body body-refusals opening-refusals section-refusals reserved-refusals frame-refusals closing-refusals key-section-refusals every
+  unfolding read-header-body-under body-refusals opening-refusals lead-refusals forbidden-refusals passing numbers-behind section-refusals reserved-refusals frame-refusals closing-refusals key-section-refusals every
   answer-fits (accepted b t) e = accepted-fits b t e
   answer-fits (refused k p) e =
       let h : Refusal (body-refusals asked) m k p = refusals .of-body asked m 0 k p e in

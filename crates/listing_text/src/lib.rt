@@ -12,6 +12,7 @@ use lines::put_part_line;
 use lines::put_refusal;
 use request::Max;
 use request::Mode;
+use request::Policy;
 use request::Request;
 use request::Which;
 use sizes::body_size;
@@ -164,6 +165,7 @@ pub fn read_as_listed(m: &[u8], start: u64, pairs: &mut [u32], keys: &mut [u32])
 {
     let request = Request {
         which: Which::Either,
+        policy: Policy::None,
         mode: Mode::Tolerant,
         max: Max::None,
     };

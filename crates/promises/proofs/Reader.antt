@@ -11,20 +11,22 @@ use Rattle.format.specs.Fields.{today, old, form-number, Fields, fields-of}
 use Rattle.format.specs.Fields.{HeaderBody as BodyRead}
 use Rattle.format.specs.Context.{Mode, tolerant, strict}
 use Rattle.format.specs.Keys.{Max}
-use Rattle.format.specs.Body.{Which, either, tests-frames, request, read-body, read-header-body}
+use Rattle.format.specs.Policies.{Policy, no-policy}
+use Rattle.format.specs.Body.{Which, either, tests-frames, request-under, read-body, read-header-body-under}
 use Rattle.format.specs.Places.{body-here, body-end}
 use Rattle.format.specs.First.{FirstApplies, FirstRefusal, body-list}
 use Rattle.format.specs.Demand3.{Stands, Gives, reaches-old}
 use Rattle.format.proofs.FirstBody.{first-refusals}
 use Rattle.format.proofs.Filled.{pair-table, key-table}
 use Rattle.format.proofs.Demand3.{demand-3}
+use Rattle.format.proofs.UnderPolicy.{under-policy}
 use Rattle.wire.specs.Codes.{because}
 use Rattle.wire.specs.declared.Refusal.{Refusal}
 use Rattle.body_reader.specs.Codes.{body-code, body-of}
 use Rattle.body_reader.specs.declared.HeaderBody.{HeaderBody}
 use Rattle.body_reader.specs.declared.HeaderBodyAnswer.{HeaderBodyAnswer}
 use Rattle.body_reader.specs.declared.HeaderBodyAnswer.the-variants.{Accepted, Refused}
-use Rattle.promises.specs.Reader.{Call, reading, Meets, Accepts, GivesFields, Refuses, Listed, Sentence1, Sentence2, Sentence3, Marks, ReaderPromises}
+use Rattle.promises.specs.Reader.{Call, reading-under, reading, Meets, Accepts, GivesFields, Refuses, Listed, Sentence1, Sentence2, Sentence3, Marks, ReaderPromises}
 
 module _ (c : Call) (o : Answer BodyRead) (call : Meets o c) where
   pub accepts : (b : BodyRead) (t : ℕ) → o ≡ accepted b t → Accepts c b t
@@ -38,7 +40,7 @@ pub record-is : (c : Call) (b : BodyRead) (x : HeaderBody) (t : ℕ) → Accepts
 record-is c b x t call e = let a : c .answer ≡ Accepted (body-code b) t = call .answer in let z : body-code b ≡ x = cc in sym z
 
 module _ (m : List ℕ) (c : Call) (b : BodyRead) (f : Fields) (t : ℕ) (given : Gives m b f) (call : Accepts c b t) where
-  gives-fields : GivesFields m c (body-code b) f
+  pub gives-fields : GivesFields m c (body-code b) f
   unfolding fields-of
   gives-fields =
       record {
@@ -54,11 +56,11 @@ module _ (m : List ℕ) (c : Call) (b : BodyRead) (f : Fields) (t : ℕ) (given 
         suiteData = given .placed .suiteData ∙ ap (λ (y : Fields). y .suiteData) (given .fields);
       }
 
-  gives-record : (x : HeaderBody) → c .answer ≡ Accepted x t → GivesFields m c x f
+  pub gives-record : (x : HeaderBody) → c .answer ≡ Accepted x t → GivesFields m c x f
   gives-record x e = rw (record-is c b x t call e) gives-fields
 
 -- the mark, as the code's record has it
-form-is : (c : Call) (b : BodyRead) (x : HeaderBody) (t : ℕ) → Accepts c b t → c .answer ≡ Accepted x t → x .numbers .form ≡ form-number (b .form)
+pub form-is : (c : Call) (b : BodyRead) (x : HeaderBody) (t : ℕ) → Accepts c b t → c .answer ≡ Accepted x t → x .numbers .form ≡ form-number (b .form)
 form-is c b x t call e = ap (λ (y : HeaderBody). y .numbers .form) (record-is c b x t call e)
 
 pairs-are : (c : Call) (b : BodyRead) (x : HeaderBody) (t : ℕ) → Accepts c b t → c .answer ≡ Accepted x t → x .pairCount ≡ length (b .pairs)
@@ -72,17 +74,17 @@ pub refused-is : (r : HeaderBodyAnswer) (o : Answer BodyRead) → r ≡ body-of 
 refused-is r (accepted b u) e q f = let z : _≡_ {A = ℕ} 0 1 = cc in absurd (omega arith)
 refused-is r (refused k p) e q f = let z : because k p ≡ q = cc in rw (← z) refl
 
-module _ (which : Which) (mode : Mode) (max : Max) (m : List ℕ) (s : ℕ) (c : Call) (call : Meets (reading which mode max m s c) c) where
-  law : FirstRefusal (read-header-body which mode max (length (c .pairs)) (length (c .keys))) (body-list (request which mode (tests-frames which) max (length (c .pairs)) (length (c .keys)))) body-here body-end m s
-  unfolding read-header-body
-  law = first-refusals .of-body (request which mode (tests-frames which) max (length (c .pairs)) (length (c .keys))) m s
+module _ (policy : Policy) (which : Which) (mode : Mode) (max : Max) (m : List ℕ) (s : ℕ) (c : Call) (call : Meets (reading-under policy which mode max m s c) c) where
+  law : FirstRefusal (read-header-body-under policy which mode max (length (c .pairs)) (length (c .keys))) (body-list (request-under policy which mode (tests-frames which) max (length (c .pairs)) (length (c .keys)))) body-here body-end m s
+  unfolding read-header-body-under
+  law = first-refusals .of-body (request-under policy which mode (tests-frames which) max (length (c .pairs)) (length (c .keys))) m s
 
-  listed : Listed which mode max m s c
+  pub listed : Listed policy which mode max m s c
   listed =
       record {
-        refuses = λ q e. law .refuses (q .number) (q .position) (refused-is (c .answer) (reading which mode max m s c) (call .answer) q e);
-        applies = λ k p f. refuses c (reading which mode max m s c) call k p (law .applies k p f);
-        accepts = λ f. accepts c (reading which mode max m s c) call (body-here m s) (body-end m s) (law .accepts f);
+        refuses = λ q e. law .refuses (q .number) (q .position) (refused-is (c .answer) (reading-under policy which mode max m s c) (call .answer) q e);
+        applies = λ k p f. refuses c (reading-under policy which mode max m s c) call k p (law .applies k p f);
+        accepts = λ f. accepts c (reading-under policy which mode max m s c) call (body-here m s) (body-end m s) (law .accepts f);
       }
 
 module _ (max : Max) (m : List ℕ) (s : ℕ) (c : Call) (bytes : Bytes m) (call : Meets (reading either tolerant max m s c) c) where
@@ -105,26 +107,26 @@ module _ (max : Max) (m : List ℕ) (s : ℕ) (c : Call) (bytes : Bytes m) (call
       }
 
 -- one answer or another, by a test
-by-answer : (b : Bool) (k : ℕ) (o : Answer BodyRead) → body-of (cond b (refused k 0) o) ≡ cond b (Refused (because k 0)) (body-of o)
+pub by-answer : (b : Bool) (k : ℕ) (o : Answer BodyRead) → body-of (cond b (refused k 0) o) ≡ cond b (Refused (because k 0)) (body-of o)
 by-answer true k o = refl
 by-answer false k o = refl
 
-module _ (which : Which) (max : Max) (m : List ℕ) (s : ℕ) (c d : Call) (bytes : Bytes m) (tolerantly : Meets (reading which tolerant max m s c) c)
-    (strictly : Meets (reading which strict max m s d) d) (pairs : c .pairs ≡ d .pairs) (keys : c .keys ≡ d .keys) where
-  sentence-2 : Sentence2 which m s c d
+module _ (policy : Policy) (which : Which) (max : Max) (m : List ℕ) (s : ℕ) (c d : Call) (bytes : Bytes m) (tolerantly : Meets (reading-under policy which tolerant max m s c) c)
+    (strictly : Meets (reading-under policy which strict max m s d) d) (pairs : c .pairs ≡ d .pairs) (keys : c .keys ≡ d .keys) where
+  pub sentence-2 : Sentence2 policy which m s c d
   sentence-2 =
-      let y = demand-3 .sentence-2 which max (length (d .pairs)) (length (d .keys)) m s bytes in
-      let t : Meets (operation (read-header-body which tolerant max (length (d .pairs)) (length (d .keys))) m s) (record { pairs = d .pairs; pairs′ = c .pairs′; keys = d .keys; keys′ = c .keys′; answer = c .answer }) =
+      let y = under-policy .sentence-2 policy which max (length (d .pairs)) (length (d .keys)) m s bytes in
+      let t : Meets (operation (read-header-body-under policy which tolerant max (length (d .pairs)) (length (d .keys))) m s) (record { pairs = d .pairs; pairs′ = c .pairs′; keys = d .keys; keys′ = c .keys′; answer = c .answer }) =
       rw (pairs, keys) at tolerantly in
       record {
-        answer = strictly .answer ∙ ap body-of (y .answers) ∙ by-answer (reaches-old which m s) 21 _ ∙ ap (cond (reaches-old which m s) (Refused (because 21 0))) (sym (t .answer));
-        pairTable = strictly .pairTable ∙ y .pair-table (d .pairs) ∙ ap (cond (reaches-old which m s) (d .pairs)) (sym (t .pairTable));
-        keyTable = strictly .keyTable ∙ y .key-table (d .keys) ∙ ap (cond (reaches-old which m s) (d .keys)) (sym (t .keyTable));
+        answer = strictly .answer ∙ ap body-of (y .answers) ∙ by-answer (reaches-old policy which m s) 21 _ ∙ ap (cond (reaches-old policy which m s) (Refused (because 21 0))) (sym (t .answer));
+        pairTable = strictly .pairTable ∙ y .pair-table (d .pairs) ∙ ap (cond (reaches-old policy which m s) (d .pairs)) (sym (t .pairTable));
+        keyTable = strictly .keyTable ∙ y .key-table (d .keys) ∙ ap (cond (reaches-old policy which m s) (d .keys)) (sym (t .keyTable));
       }
 
-sentence-3 : (mode : Mode) (max : Max) (m : List ℕ) (s : ℕ) (c : Call) → length m ≤ 4294967295 → Sentence3 mode max m s c
-sentence-3 mode max m s c h =
-    let law = demand-3 .sentence-3 mode max (length (c .pairs)) (length (c .keys)) m s h in
+pub sentence-3 : (policy : Policy) (mode : Mode) (max : Max) (m : List ℕ) (s : ℕ) (c : Call) → length m ≤ 4294967295 → Sentence3 policy mode max m s c
+sentence-3 policy mode max m s c h =
+    let law = under-policy .sentence-3 policy mode max (length (c .pairs)) (length (c .keys)) m s h in
     record { version-1 = λ call. rw (law .version-1) at call; version-2 = λ call. rw (law .version-2) at call }
 
 module _ (which : Which) (mode : Mode) (max : Max) (m : List ℕ) (s : ℕ) (c : Call) (bytes : Bytes m) (call : Meets (reading which mode max m s c) c) (x : HeaderBody) (tail : ℕ) (e : c .answer ≡ Accepted x tail) where
@@ -135,7 +137,7 @@ module _ (which : Which) (mode : Mode) (max : Max) (m : List ℕ) (s : ℕ) (c :
       let law = demand-3 .marks which mode max (length (c .pairs)) (length (c .keys)) m s bytes b tail q in
       let f = form-is c b x tail a e in
       record {
-        by-the-section = f ∙ ap form-number (law .by-the-section) ∙ numbered (reaches-old which m s);
+        by-the-section = f ∙ ap form-number (law .by-the-section) ∙ numbered (reaches-old no-policy which m s);
         with-a-pair = λ h. f ∙ ap form-number (law .with-a-pair (λ none. h (pairs-are c b x tail a e ∙ ap length none)));
         strictly = λ k. f ∙ ap form-number (law .strictly k);
       }
@@ -145,4 +147,4 @@ module _ (which : Which) (mode : Mode) (max : Max) (m : List ℕ) (s : ℕ) (c :
       numbered false = refl
 
 pub reader-promises : ReaderPromises
-reader-promises = record { listed = listed; sentence-1 = sentence-1; sentence-2 = sentence-2; sentence-3 = sentence-3; marks = marks }
+reader-promises = record { listed = listed no-policy; sentence-1 = sentence-1; sentence-2 = sentence-2 no-policy; sentence-3 = sentence-3 no-policy; marks = marks }

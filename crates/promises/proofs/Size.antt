@@ -4,7 +4,8 @@ use mathlib.Core.Path.{_≡_, ap, _∙_}
 use mathlib.Core.List.{List}
 use lib.ListN.{length}
 use Rattle.format.specs.Read.{accepted, refused}
-use Rattle.format.specs.Lent.{filled, Writing, size-of, writing-header-body, writing-frames}
+use Rattle.format.specs.Policies.{no-policy}
+use Rattle.format.specs.Lent.{filled, Writing, size-of, writing-header-body-under, writing-header-body, writing-frames}
 use Rattle.format.specs.Size.{SizeLaw, size-refusals, frames-size-refusals, GivenBy}
 use Rattle.format.proofs.Writers.{writer-law}
 use Rattle.format.proofs.Size.{size-laws}
@@ -34,7 +35,7 @@ module _ (w : Writing) (refusals : List ℕ) (given : GivenBy refusals w) (befor
       let (c, d, room, o) = writer-law w before .only-then n a in
       (call .answer ∙ ap write-answer-of a, d, call .output ∙ o)
 
-  told : Told refusals (w .image) before after r s
+  pub told : Told refusals (w .image) before after r s
   told =
       record {
         refuses = λ q e. (let (a, o) = law .refuses _ _ (told-refused q e) before in (call .answer ∙ ap write-answer-of a, call .output ∙ o));
@@ -50,9 +51,9 @@ module _ (w : Writing) (refusals : List ℕ) (given : GivenBy refusals w) (befor
         listed = λ q e. given _ _ (told-refused q e);
       }
 
-of-body : (w : Write) (s : WriteAnswer) → Tells (writing-header-body (lent w)) s → MeetsWriter w → Told size-refusals (its-image w) (w .before) (w .after) (w .answer) s
-unfolding writing-header-body body-to-write
-of-body w s size call = told (writing-header-body (lent w)) size-refusals (size-laws .of-body (lent w)) (w .before) (w .after) (w .answer) s size call
+of-body : (w : Write) (s : WriteAnswer) → Tells (writing-header-body (lent w)) s → MeetsWriter w → Told (size-refusals no-policy) (its-image w) (w .before) (w .after) (w .answer) s
+unfolding writing-header-body-under body-to-write
+of-body w s size call = told (writing-header-body (lent w)) (size-refusals no-policy) (size-laws .of-body no-policy (lent w)) (w .before) (w .after) (w .answer) s size call
 
 pub size-promises : SizePromises
 size-promises =

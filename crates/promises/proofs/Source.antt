@@ -7,7 +7,7 @@ use Rattle.format.specs.Serialize.{Bytes}
 use Rattle.format.specs.Fields.{HeaderBody as BodyRead}
 use Rattle.format.specs.Context.{Mode}
 use Rattle.format.specs.Keys.{Max}
-use Rattle.format.specs.Body.{Which, read-header-body}
+use Rattle.format.specs.Body.{Which, read-header-body-under}
 use Rattle.format.specs.Lent.{table-after, pair-numbers, key-numbers, pair-table-after, key-table-after, Writing}
 use Rattle.format.specs.SourceEquality.{NoKeyIn, Beside, WrittenAlike}
 use Rattle.format.proofs.SourceEquality.{source-equality}
@@ -52,7 +52,7 @@ back-body : (o : Answer BodyRead) (q : Refusal) → body-of o ≡ body.Refused q
 back-body o q e = refused-is (body-of o) o refl q e
 
 body-leaves : (which : Which) (mode : Mode) (max : Max) (m : List ℕ) (s : ℕ) (c : Call) → Bytes m → Meets (reading which mode max m s c) c → BodyLeaves (NoKeyIn (as-asked which mode max c) m s) (source-reading which mode max m s c) c
-unfolding read-header-body
+unfolding read-header-body-under
 body-leaves which mode max m s c hb call =
     let law = source-equality .of-body (as-asked which mode max c) m s hb in
     record {

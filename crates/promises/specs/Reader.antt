@@ -11,7 +11,8 @@ use Rattle.format.specs.Fields.{form-number, Fields}
 use Rattle.format.specs.Fields.{HeaderBody as BodyRead}
 use Rattle.format.specs.Context.{Mode, tolerant, strict}
 use Rattle.format.specs.Keys.{Max}
-use Rattle.format.specs.Body.{Which, either, v1-only, v2-only, tests-frames, request, read-header-body, read-header-body-untested}
+use Rattle.format.specs.Policies.{Policy, no-policy}
+use Rattle.format.specs.Body.{Which, either, v1-only, v2-only, tests-frames, request-under, read-header-body-under, read-header-body-untested-under}
 use Rattle.format.specs.Lent.{bytes-at, filled, pair-numbers, key-numbers, items, pair-in, key-in}
 use Rattle.format.specs.Places.{body-here, body-end}
 use Rattle.format.specs.First.{FirstApplies, NoneApplies, Line, operation-list, body-list}
@@ -31,9 +32,12 @@ pub record Call : Type 0 where
   pub keys′ : List ℕ
   pub answer : HeaderBodyAnswer
 
--- what the definition answers, with tables as long as the call's
+-- what the definition answers, with tables as long as the call's, under a policy and without one
+abbrev pub reading-under : Policy → Which → Mode → Max → List ℕ → ℕ → Call → Answer BodyRead
+reading-under policy which mode max m s c = operation (read-header-body-under policy which mode max (length (c .pairs)) (length (c .keys))) m s
+
 abbrev pub reading : Which → Mode → Max → List ℕ → ℕ → Call → Answer BodyRead
-reading which mode max m s c = operation (read-header-body which mode max (length (c .pairs)) (length (c .keys))) m s
+reading = reading-under no-policy
 
 -- the call meets the contract, by that answer of the definition
 abbrev pub Meets : Answer BodyRead → Call → Type 0
@@ -65,14 +69,14 @@ pub record Refuses (c : Call) (number position : ℕ) : Type 0 where
   pub keyTable : c .keys′ ≡ c .keys
 
 -- document 01's list for the request
-abbrev pub listed : Which → Mode → Max → List ℕ → ℕ → Call → List Line
-listed which mode max m s c = operation-list (body-list (request which mode (tests-frames which) max (length (c .pairs)) (length (c .keys)))) m s
+abbrev pub listed : Policy → Which → Mode → Max → List ℕ → ℕ → Call → List Line
+listed policy which mode max m s c = operation-list (body-list (request-under policy which mode (tests-frames which) max (length (c .pairs)) (length (c .keys)))) m s
 
 -- it refuses by the first line of the list that applies, with its position; where none does it accepts what stands there
-pub record Listed (which : Which) (mode : Mode) (max : Max) (m : List ℕ) (s : ℕ) (c : Call) : Type 0 where
-  pub refuses : (q : Refusal) → c .answer ≡ Refused q → FirstApplies (listed which mode max m s c) (q .number) (q .position)
-  pub applies : (k p : ℕ) → FirstApplies (listed which mode max m s c) k p → Refuses c k p
-  pub accepts : NoneApplies (listed which mode max m s c) → Accepts c (body-here m s) (body-end m s)
+pub record Listed (policy : Policy) (which : Which) (mode : Mode) (max : Max) (m : List ℕ) (s : ℕ) (c : Call) : Type 0 where
+  pub refuses : (q : Refusal) → c .answer ≡ Refused q → FirstApplies (listed policy which mode max m s c) (q .number) (q .position)
+  pub applies : (k p : ℕ) → FirstApplies (listed policy which mode max m s c) k p → Refuses c k p
+  pub accepts : NoneApplies (listed policy which mode max m s c) → Accepts c (body-here m s) (body-end m s)
 
 -- and its mark is the one that a writer is given who would write them
 abbrev pub Marked : HeaderBody → Writer → Fields → Type 0
@@ -86,35 +90,35 @@ pub record Sentence1 (max : Max) (m : List ℕ) (s : ℕ) (c : Call) : Type 0 wh
   pub all : length m ≤ 4294967295 → (w : Writer) (f : Fields) → Stands max (length (c .pairs)) (length (c .keys)) m s w f
       → (b : BodyRead) × Accepts c b (s + length (image-by w f)) × Gives m b f × GivesFields m c (body-code b) f × Marked (body-code b) w f
   pub otherwise : length m ≤ 4294967295 → ((w : Writer) (f : Fields) → Stands max (length (c .pairs)) (length (c .keys)) m s w f → ⊥)
-      → (k : ℕ) × (p : ℕ) × Refuses c k p × FirstApplies (listed either tolerant max m s c) k p
+      → (k : ℕ) × (p : ℕ) × Refuses c k p × FirstApplies (listed no-policy either tolerant max m s c) k p
   pub longer : 4294967295 < length m → Refuses c 1 0
   pub farther : 4294967295 < s → Refuses c 1 0
 
--- SENTENCE 2, of a strict and a tolerant call with the same start, tables and maximum
-pub record Sentence2 (which : Which) (m : List ℕ) (s : ℕ) (tolerantly strictly : Call) : Type 0 where
-  pub answer : strictly .answer ≡ cond (reaches-old which m s) (Refused (because 21 0)) (tolerantly .answer)
-  pub pairTable : strictly .pairs′ ≡ cond (reaches-old which m s) (strictly .pairs) (tolerantly .pairs′)
-  pub keyTable : strictly .keys′ ≡ cond (reaches-old which m s) (strictly .keys) (tolerantly .keys′)
+-- SENTENCE 2, of a strict and a tolerant call with the same start, tables, maximum and policy
+pub record Sentence2 (policy : Policy) (which : Which) (m : List ℕ) (s : ℕ) (tolerantly strictly : Call) : Type 0 where
+  pub answer : strictly .answer ≡ cond (reaches-old policy which m s) (Refused (because 21 0)) (tolerantly .answer)
+  pub pairTable : strictly .pairs′ ≡ cond (reaches-old policy which m s) (strictly .pairs) (tolerantly .pairs′)
+  pub keyTable : strictly .keys′ ≡ cond (reaches-old policy which m s) (strictly .keys) (tolerantly .keys′)
 
 -- SENTENCE 3, of a reader of one version: it meets the contract with this answer of the definition in the place of its own
-pub record Sentence3 (mode : Mode) (max : Max) (m : List ℕ) (s : ℕ) (c : Call) : Type 0 where
-  pub version-1 : Meets (reading v1-only mode max m s c) c
-      → Meets (cond (stands-at 2 m s) (refused 4 0) (operation (read-header-body-untested mode max (length (c .pairs)) (length (c .keys))) m s)) c
-  pub version-2 : Meets (reading v2-only mode max m s c) c
-      → Meets (cond (stands-at 1 m s) (refused 4 0) (operation (read-header-body-untested mode max (length (c .pairs)) (length (c .keys))) m s)) c
+pub record Sentence3 (policy : Policy) (mode : Mode) (max : Max) (m : List ℕ) (s : ℕ) (c : Call) : Type 0 where
+  pub version-1 : Meets (reading-under policy v1-only mode max m s c) c
+      → Meets (cond (stands-at 2 m s) (refused 4 0) (operation (read-header-body-untested-under policy mode max (length (c .pairs)) (length (c .keys))) m s)) c
+  pub version-2 : Meets (reading-under policy v2-only mode max m s c) c
+      → Meets (cond (stands-at 1 m s) (refused 4 0) (operation (read-header-body-untested-under policy mode max (length (c .pairs)) (length (c .keys))) m s)) c
 
 -- THE MARK of an accepted body, whichever version and mode is asked for: 1 just where the context section that was reached is
 -- 00 02 00 00; 0 where there is a pair, and in the strict mode
 pub record Marks (which : Which) (mode : Mode) (m : List ℕ) (s : ℕ) (x : HeaderBody) : Type 0 where
-  pub by-the-section : x .numbers .form ≡ cond (reaches-old which m s) 1 0
+  pub by-the-section : x .numbers .form ≡ cond (reaches-old no-policy which m s) 1 0
   pub with-a-pair : (x .pairCount ≡ 0 → ⊥) → x .numbers .form ≡ 0
   pub strictly : mode ≡ strict → x .numbers .form ≡ 0
 
 pub record ReaderPromises : Type 0 where
-  pub listed : (which : Which) (mode : Mode) (max : Max) (m : List ℕ) (s : ℕ) (c : Call) → Meets (reading which mode max m s c) c → Listed which mode max m s c
+  pub listed : (which : Which) (mode : Mode) (max : Max) (m : List ℕ) (s : ℕ) (c : Call) → Meets (reading which mode max m s c) c → Listed no-policy which mode max m s c
   pub sentence-1 : (max : Max) (m : List ℕ) (s : ℕ) (c : Call) → Bytes m → Meets (reading either tolerant max m s c) c → Sentence1 max m s c
   pub sentence-2 : (which : Which) (max : Max) (m : List ℕ) (s : ℕ) (c d : Call) → Bytes m → Meets (reading which tolerant max m s c) c → Meets (reading which strict max m s d) d
-      → c .pairs ≡ d .pairs → c .keys ≡ d .keys → Sentence2 which m s c d
-  pub sentence-3 : (mode : Mode) (max : Max) (m : List ℕ) (s : ℕ) (c : Call) → length m ≤ 4294967295 → Sentence3 mode max m s c
+      → c .pairs ≡ d .pairs → c .keys ≡ d .keys → Sentence2 no-policy which m s c d
+  pub sentence-3 : (mode : Mode) (max : Max) (m : List ℕ) (s : ℕ) (c : Call) → length m ≤ 4294967295 → Sentence3 no-policy mode max m s c
   pub marks : (which : Which) (mode : Mode) (max : Max) (m : List ℕ) (s : ℕ) (c : Call) → Bytes m → Meets (reading which mode max m s c) c
       → (x : HeaderBody) (tail : ℕ) → c .answer ≡ Accepted x tail → Marks which mode m s x

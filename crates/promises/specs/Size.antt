@@ -4,6 +4,7 @@ use Prim.Native.Nat.{ℕ, _≤_, _<_}
 use mathlib.Core.Path.{_≡_}
 use mathlib.Core.List.{List, List·Memᴰ}
 use lib.ListN.{length}
+use Rattle.format.specs.Policies.{no-policy}
 use Rattle.format.specs.Lent.{filled, Writing, size-of, writing-header-body, writing-frames}
 use Rattle.format.specs.Lengths.{JustWhere}
 use Rattle.format.specs.Size.{size-refusals, frames-size-refusals}
@@ -32,6 +33,6 @@ pub record Told (refusals image before after : List ℕ) (r s : WriteAnswer) : T
   pub listed : (q : Refusal) → s ≡ Refused q → List·Memᴰ (q .number) refusals × (q .number ≡ 28 → ⊥) × (q .position ≡ 0)
 
 pub record SizePromises : Type 0 where
-  pub of-body : (w : Write) (s : WriteAnswer) → Tells (writing-header-body (lent w)) s → MeetsWriter w → Told size-refusals (its-image w) (w .before) (w .after) (w .answer) s
+  pub of-body : (w : Write) (s : WriteAnswer) → Tells (writing-header-body (lent w)) s → MeetsWriter w → Told (size-refusals no-policy) (its-image w) (w .before) (w .after) (w .answer) s
   pub of-frames : (frame : ℕ) (text table before after : List ℕ) (r s : WriteAnswer) → Tells (writing-frames frame text table) s → Writes (writing-frames frame text table) before after r
       → Told frames-size-refusals (writing-frames frame text table .image) before after r s

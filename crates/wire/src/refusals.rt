@@ -116,3 +116,6 @@ pub const REGULAR_CONTENT_LENGTH: u8 = 37;
 
 // There is no encrypted data key.
 pub const NO_ENCRYPTED_DATA_KEY: u8 = 38;
+
+// The policy forbids the suite.
+pub const FORBIDDEN_BY_POLICY: u8 = 39;

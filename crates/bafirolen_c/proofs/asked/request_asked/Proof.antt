@@ -6,4 +6,4 @@ use Rattle.bafirolen_c.proofs.asked.request_asked.Tie as tie
 ruleset laws = (request-of, needs)
 
 pub request-asked-spec : {M : Type 1} → statement M
-request-asked-spec = tie.close (tie.spec (λ c κs. search laws) (λ c κs. search laws) (λ c κs. search laws) (λ c. search laws))
+request-asked-spec = tie.close (tie.spec (λ c κs. search laws) (λ c κs. search laws) (λ c κs. search laws) (λ c κs. search laws) (λ c. search laws))

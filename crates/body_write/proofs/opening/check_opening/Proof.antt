@@ -1,13 +1,10 @@
-use Rattle.format.specs.Checks.{first}
-use Rattle.checks.proofs.Stages.{check-stop, check-pass, check-end}
+use Rattle.body_write.proofs.PolicyLaws.{no-lead, check-24, all-checked}
 use borrow.Author.Tests.{not-true, not-false}
-use Rattle.body_write.proofs.SuiteLaws.{check-6, pass-6, check-7, pass-7}
 use borrow.Author.Needs.{needs}
 use Rattle.body_write.proofs.opening.check_opening.Statement.{statement}
 use Rattle.body_write.proofs.opening.check_opening.Tie as tie
 
-ruleset laws = (check-stop, check-pass, check-end, not-true, not-false, check-6, pass-6, check-7, pass-7, needs)
+ruleset laws = (no-lead, check-24, all-checked, not-true, not-false, needs)
 
 pub check-opening-spec : {M : Type 1} → statement M
-unfolding first
-check-opening-spec = tie.close (tie.spec (λ c κs. search laws) (λ c κs. search laws) (λ c. search laws) (λ c κs. search laws) (λ c κs. search laws) (λ c. search laws) (λ c κs. search laws) (λ c. search laws) (λ c. search laws) (λ c κs. search laws) (λ c. search laws) (λ c. search laws) (λ c κs. search laws) (λ c. search laws) (λ c κs. search laws) (λ c κs. search laws) (λ c. search laws) (λ c. search laws))
+check-opening-spec = tie.close (tie.spec (λ c κs. search laws) (λ c. search laws) (λ c. search laws) (λ c. search laws) (λ c κs. search laws) (λ c κs. search laws) (λ c. search laws) (λ c. search laws))

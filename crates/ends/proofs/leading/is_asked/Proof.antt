@@ -1,7 +1,7 @@
-use Rattle.ends.proofs.OpeningLaws.{asked-either, asked-v1, asked-v2}
+use Rattle.ends.proofs.LeadLaws.{asked-either, asked-v1, asked-v2}
 use borrow.Author.Needs.{needs}
-use Rattle.ends.proofs.is_asked.Statement.{statement}
-use Rattle.ends.proofs.is_asked.Tie as tie
+use Rattle.ends.proofs.leading.is_asked.Statement.{statement}
+use Rattle.ends.proofs.leading.is_asked.Tie as tie
 
 ruleset laws = (asked-either, asked-v1, asked-v2, needs)
 

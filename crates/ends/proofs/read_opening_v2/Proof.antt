@@ -1,9 +1,0 @@
-use Rattle.ends.proofs.OpeningLaws.{v2-is}
-use borrow.Author.Needs.{needs}
-use Rattle.ends.proofs.read_opening_v2.Statement.{statement}
-use Rattle.ends.proofs.read_opening_v2.Tie as tie
-
-ruleset laws = (v2-is, needs)
-
-pub read-opening-v2-spec : {M : Type 1} → statement M
-read-opening-v2-spec = tie.close (tie.spec (λ c κs. search laws) (λ c. search laws))
