@@ -8,7 +8,7 @@
  *
  * THE SHORTEST USE. bafirolen_header_number says of the bytes at a start whether a header is there (0) or why not, and
  * bafirolen_header_position where it ends, or how many bytes are wanted. A host that wants the fields calls
- * bafirolen_read_header_body.
+ * bafirolen_read_header_body; one that has a commitment policy, a function of bafirolen_policy.h in its place.
  *
  * LENDING. A pointer and a length together are one lent part: `const uint8_t *message, size_t message_len`. The length counts
  * elements: bytes of a message, numbers of a table (`sizeof table` counts bytes: lend sizeof table / sizeof *table). A part of
@@ -24,7 +24,8 @@
  * answers a struct by value. The struct's `number` is 0 where the input was accepted, and then its `position` is 0. Otherwise it
  * is the refusal, one of `enum BafirolenRefusal`, and every other field is 0, except that with BAFIROLEN_REFUSED_SHORTAGE
  * `position` is how many bytes the message would have to have. On a refusal every lent byte and number is as it was. Every
- * input is allowed: each call on parts lent as above returns, with exactly one answer.
+ * input is allowed: each call on parts lent as above returns, with exactly one answer. bafirolen_refusals.h has the refusals in
+ * words, and WHAT TO DO with each.
  *
  * The comment of each function lists the refusals that it can answer ("Refuses"), in the order of its tests: of two that apply
  * the first is answered. 10, 11, 12 and, in reading, 32 are tested of one pair after the other, 16 of one key after the other,
@@ -32,21 +33,6 @@
  * decides. 2 is answered where the next field is not all there. Fields are read one by one, but the context section is awaited
  * whole, once its length is read, before any of its pairs is tested. In it the count, and the length and bytes of each key and
  * value, are refused by 32 where they would end past the section, before they are read.
- *
- * WHAT TO DO WITH A REFUSAL.
- * BAFIROLEN_REFUSED_SHORTAGE: fetch more, until the message has at least `position` bytes, and call again; with fewer the answer
- * is the same. `position` is the end of the next field only, and each call reads from `start` again: fetch what is at hand, or
- * twice as much, rather than just up to it. If no more will come, or `position` is above 4,294,967,295, reject the message. Set a
- * limit: lengths in a message may claim what never comes. No part of a context is waited for past its section: where it claims to
- * end there, the message is damaged, and is refused by 32 as soon as the section is there.
- * BAFIROLEN_REFUSED_PAIR_TABLE_TOO_SHORT, .._KEY_TABLE_TOO_SHORT, .._OUTPUT_TOO_SHORT: lend more, and call again. The answer does
- * not say how much: lend twice as much, or a table of BAFIROLEN_LARGEST_PAIR_TABLE or BAFIROLEN_LARGEST_KEY_TABLE numbers, or of
- * as many as bafirolen_frame_table_len gives for frames. How long an output has to be, bafirolen_header_body_len says of a body and
- * bafirolen_frames_len of frames before they are written, and of all else the writers' comments. The two calls and the listing have
- * tables of their own; where these are too short, call bafirolen_read_header_body.
- * Every other: neither more bytes nor more room change it. From a reader: reject the message (4, 15 and 21 depend on what you
- * asked for). From a writer: correct the fields or frames, or with 31 the required table; bafirolen_write_only_authenticated is a
- * writer with 31 and 28, and a reader with all others. BAFIROLEN_REFUSED_NOT_FOUND: the context is good and lacks this key.
  *
  * Names are those of the AWS Encryption SDK's message format: a header has an encryption context (pairs of key and value) and
  * encrypted data keys (key provider ID, key provider info, ciphertext); "key" alone is either, by where it stands. Pairs and keys
@@ -59,6 +45,7 @@
 #include <stddef.h>
 #include <stdint.h>
 
+#include "bafirolen_policy.h"
 #include "bafirolen_records.h"
 #include "bafirolen_refusals.h"
 
@@ -68,9 +55,9 @@ extern "C" {
 
 /*
  * The version of these declarations, which grows by one with each change of them. bafirolen_version gives that of the archive:
- * where the two differ, the archive was made for another header file than this. A host of version 7 knows no refusal 38.
+ * where the two differ, the archive was made for another header file than this. A host of version 8 knows no refusal 39.
  */
-#define BAFIROLEN_VERSION 8
+#define BAFIROLEN_VERSION 9
 uint32_t bafirolen_version(void);
 
 /*
@@ -101,7 +88,7 @@ uint64_t bafirolen_header_position(const uint8_t *message, size_t message_len, u
  */
 
 /*
- * Reads the header body at `start`.
+ * Reads the header body at `start`. Under a commitment policy: bafirolen_read_header_body_under_policy.
  * which: BAFIROLEN_V1_ONLY; BAFIROLEN_V2_ONLY; any other number: BAFIROLEN_EITHER. Asking for one version leaves out the test of
  * the frame length (20): to have that test as well, ask for either version and then compare numbers.version.
  * mode: BAFIROLEN_TOLERANT; any other number: strict, which refuses an empty context in its old form, 00 02 00 00 for 00 00.
@@ -216,7 +203,7 @@ BafirolenWritten bafirolen_write_header_auth_tag(uint32_t suite, const uint8_t *
 /*
  * Writes a header body. Pairs and keys have their places in one text; message ID and suite data are bytes of their own. A body
  * takes 34 bytes in version 1 and 76 in version 2; where it has a pair or is marked old, 2 more; 4 for each pair, 6 for each key,
- * and their parts: bafirolen_header_body_len adds them up.
+ * and their parts: bafirolen_header_body_len adds them up. Under a commitment policy: bafirolen_write_header_body_under_policy.
  * numbers.form: BAFIROLEN_TODAY, and an empty context is written 00 00; any other number: old, and it is written 00 02 00 00.
  * Refuses: 3 5 6 7 24 26 27 10 11 12 13 33 38 16 17 19 25 20 28.
  * 26 and 27 are tested of the pairs before 10, of the keys after 33 and before 38; 33 only where the form is old, 38 without a key.
@@ -233,6 +220,7 @@ BafirolenWritten bafirolen_write_header_body(BafirolenNumbers numbers, const uin
  * than 28 that the writer would, and whatever output the writer is then lent, it answers the same. Where there is none, the writer
  * answers 28 exactly where the output is shorter than `length`, and otherwise accepts and gives that length. Keys may share their
  * places, so that the length may be far above that of the text: up to 12.9 GB. Changes nothing.
+ * Under a commitment policy: bafirolen_header_body_len_under_policy.
  * Refuses: 3 5 6 7 24 26 27 10 11 12 13 33 38 16 17 19 25 20.
  * 26, 27, 33 and 38 as for bafirolen_write_header_body.
  * Stack: BAFIROLEN_STACK_WRITE.

@@ -131,7 +131,7 @@ static inline uint64_t bafirolen_context_start(BafirolenBody body)
     return body.messageIdStart + body.messageIdLen;
 }
 
-/* What was written or copied; or, of bafirolen_header_body_len and bafirolen_frames_len, what would be written. 24 bytes. */
+/* What was written or copied; or, of the functions that say a length before, what would be written. 24 bytes. */
 typedef struct BafirolenWritten {
     uint64_t number;
     uint64_t position;

@@ -1,6 +1,25 @@
 /*
- * The refusals by their numbers, and in words. bafirolen.h includes this. A number keeps its meaning from one version to the next;
- * later versions may have more of them. Stored bytes are given in hexadecimal (80, 01), counts in decimal.
+ * The refusals by their numbers, and in words, and what to do with each. bafirolen.h includes this. A number keeps its meaning from
+ * one version to the next; later versions may have more of them. Stored bytes are given in hexadecimal (80, 01), counts in decimal.
+ *
+ * WHAT TO DO WITH A REFUSAL.
+ *
+ * BAFIROLEN_REFUSED_SHORTAGE: fetch more, until the message has at least `position` bytes, and call again; with fewer the answer
+ * is the same. `position` is the end of the next field only, and each call reads from `start` again: fetch what is at hand, or
+ * twice as much, rather than just up to it. If no more will come, or `position` is above 4,294,967,295, reject the message. Set a
+ * limit: lengths in a message may claim what never comes. No part of a context is waited for past its section: where it claims to
+ * end there, the message is damaged, and is refused by 32 as soon as the section is there.
+ *
+ * BAFIROLEN_REFUSED_PAIR_TABLE_TOO_SHORT, .._KEY_TABLE_TOO_SHORT, .._OUTPUT_TOO_SHORT: lend more, and call again. The answer does
+ * not say how much: lend twice as much, or a table of BAFIROLEN_LARGEST_PAIR_TABLE or BAFIROLEN_LARGEST_KEY_TABLE numbers, or of
+ * as many as bafirolen_frame_table_len gives for frames. How long an output has to be, bafirolen_header_body_len says of a body and
+ * bafirolen_frames_len of frames before they are written, and of all else the writers' comments. The two calls and the listing have
+ * tables of their own; where these are too short, call bafirolen_read_header_body.
+ *
+ * Every other: neither more bytes nor more room change it. From a reader: reject the message (4, 15, 21 and 39 depend on what you
+ * asked for). From a writer: correct the fields or frames, or with 31 the required table, and with 39 write the version that the
+ * policy asks for; bafirolen_write_only_authenticated is a writer with 31 and 28, and a reader with all others.
+ * BAFIROLEN_REFUSED_NOT_FOUND: the context is good and lacks this key.
  */
 #ifndef BAFIROLEN_REFUSALS_H
 #define BAFIROLEN_REFUSALS_H
@@ -47,7 +66,8 @@ enum BafirolenRefusal {
     BAFIROLEN_REFUSED_FINAL_CONTENT_TOO_LONG = 35, /* in reading and in writing */
     BAFIROLEN_REFUSED_NO_FRAME = 36,               /* in writing alone, as 37 */
     BAFIROLEN_REFUSED_REGULAR_CONTENT_LENGTH = 37,
-    BAFIROLEN_REFUSED_NO_ENCRYPTED_DATA_KEY = 38 /* in reading and in writing */
+    BAFIROLEN_REFUSED_NO_ENCRYPTED_DATA_KEY = 38, /* in reading and in writing, as 39 */
+    BAFIROLEN_REFUSED_FORBIDDEN_BY_POLICY = 39    /* bafirolen_policy.h says which versions a policy forbids */
 };
 
 /* A refusal in words. Any other number has the words for unknown ones. */
@@ -93,6 +113,7 @@ static inline const char *bafirolen_refusal_text(uint64_t number)
         "no frame to write",
         "content of a frame before the last not of the frame length",
         "no encrypted data key",
+        "suite forbidden by the policy",
     };
     return number < sizeof texts / sizeof *texts ? texts[number] : "unknown refusal";
 }

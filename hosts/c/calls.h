@@ -45,6 +45,14 @@ static void read_body(void)
     clear_behind_numbers(&lent->answer.body);
 }
 
+static void read_body_under(void)
+{
+    lent->answer.body = bafirolen_read_header_body_under_policy(body.bytes, body.length, 0, BAFIROLEN_EITHER, BAFIROLEN_TOLERANT,
+                                                                BAFIROLEN_NO_MAX, 0, policy_for(shape.version), lent->pairs,
+                                                                pairs_len, lent->keys, keys_len);
+    clear_behind_numbers(&lent->answer.body);
+}
+
 /* strict, where that accepts */
 static void read_context(void)
 {
@@ -124,6 +132,22 @@ static void body_length(void)
     lent->answer.written =
         bafirolen_header_body_len(numbers_of(shape), body.bytes, shape.version == 1 ? 16 : 32, body.bytes, other, body.bytes,
                                   body.length, body.pair_table, 4 * shape.pairs, body.key_table, 6 * shape.keys);
+}
+
+static void write_body_under(void)
+{
+    const size_t other = shape.version == 1 ? 0 : 32;
+    lent->answer.written = bafirolen_write_header_body_under_policy(
+        numbers_of(shape), policy_for(shape.version), body.bytes, shape.version == 1 ? 16 : 32, body.bytes, other, body.bytes,
+        body.length, body.pair_table, 4 * shape.pairs, body.key_table, 6 * shape.keys, lent->out, out_len);
+}
+
+static void body_length_under(void)
+{
+    const size_t other = shape.version == 1 ? 0 : 32;
+    lent->answer.written = bafirolen_header_body_len_under_policy(
+        numbers_of(shape), policy_for(shape.version), body.bytes, shape.version == 1 ? 16 : 32, body.bytes, other, body.bytes,
+        body.length, body.pair_table, 4 * shape.pairs, body.key_table, 6 * shape.keys);
 }
 
 /* every pair's key is required, so that every pair is sorted and written */

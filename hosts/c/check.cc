@@ -1,8 +1,9 @@
 /*
  * A host in C++: bafirolen.h is included twice, what is empty is lent as an empty vector has it; header H is read, its pairs and
  * keys are gone through, it is measured and written again, as is one with an empty context in the old form, and what is
- * authenticated of its context is written alone; without its key it is refused; frames are read, gone through, measured and
- * written again. Writes `compared N cases`; a difference is written to standard error, and the exit status is 1.
+ * authenticated of its context is written alone; without its key it is refused, and under a policy it is read, measured and
+ * written, or refused; frames are read, gone through, measured and written again. Writes `compared N cases`; a difference is
+ * written to standard error, and the exit status is 1.
  *
  *     rt staticlib bafirolen_c
  *     g++ -std=c++11 -O2 -Wall -Wextra -Wpedantic -Iinclude hosts/c/check.cc target/staticlib/libbafirolen_c.a -o target/check
@@ -127,6 +128,38 @@ void no_key()
     same("nothing is written", out, Bytes(46, 0xEE));
 }
 
+/* H under each policy: what it is refused by when it is read, and when it is measured and written again */
+void policies()
+{
+    const std::map<BafirolenPolicy, std::vector<uint64_t>> refusals = {
+        {BAFIROLEN_NO_POLICY, {0, 0}},
+        {BAFIROLEN_FORBID_ENCRYPT_ALLOW_DECRYPT, {0, 0}},
+        {BAFIROLEN_REQUIRE_ENCRYPT_ALLOW_DECRYPT, {0, BAFIROLEN_REFUSED_FORBIDDEN_BY_POLICY}},
+        {BAFIROLEN_REQUIRE_ENCRYPT_REQUIRE_DECRYPT,
+         {BAFIROLEN_REFUSED_FORBIDDEN_BY_POLICY, BAFIROLEN_REFUSED_FORBIDDEN_BY_POLICY}}};
+    const BafirolenNumbers numbers = bafirolen_v1_numbers(0x0178, BAFIROLEN_FRAMED, 4096);
+    const Table pairs = {26, 4, 32, 2}, keys = {38, 2, 42, 1, 45, 3};
+    for (const auto &row : refusals) {
+        const bool reads = row.second[0] == 0, writes = row.second[1] == 0;
+        Table p(4), k(6);
+        const BafirolenBody b = bafirolen_read_header_body_under_policy(H.data(), H.size(), 0, BAFIROLEN_V1_ONLY, BAFIROLEN_STRICT,
+                                                                        BAFIROLEN_AT_MOST, 1, row.first, p.data(), p.size(),
+                                                                        k.data(), k.size());
+        same("a policy in reading", b.number == row.second[0] && b.position == 0 && b.tail == (reads ? 58 : 0), true);
+        same("its tables", p == (reads ? pairs : Table(4)) && k == (reads ? keys : Table(6)), true);
+        const BafirolenWritten n = bafirolen_header_body_len_under_policy(numbers, row.first, &H[4], 16, nullptr, 0, H.data(),
+                                                                          H.size(), pairs.data(), pairs.size(), keys.data(),
+                                                                          keys.size());
+        same("a policy in measuring", n.number == row.second[1] && n.position == 0 && n.length == (writes ? 58 : 0), true);
+        Bytes out(58, 0xEE);
+        const BafirolenWritten w = bafirolen_write_header_body_under_policy(numbers, row.first, &H[4], 16, nullptr, 0, H.data(),
+                                                                            H.size(), pairs.data(), pairs.size(), keys.data(),
+                                                                            keys.size(), out.data(), out.size());
+        same("a policy in writing", w.number == n.number && w.position == 0 && w.length == n.length, true);
+        same("its output", out, writes ? H : Bytes(58, 0xEE));
+    }
+}
+
 /* what an empty vector gives for a pointer may be null */
 void empty_vectors()
 {
@@ -222,12 +255,13 @@ int main()
 {
     same("the version of the declarations", bafirolen_version(), uint32_t(BAFIROLEN_VERSION));
     same("the text of a refusal", std::string(bafirolen_refusal_text(BAFIROLEN_REFUSED_NOT_FOUND)), "no pair has the key");
-    same("the text of the last refusal", std::string(bafirolen_refusal_text(38)), "no encrypted data key");
-    same("the text of no refusal", std::string(bafirolen_refusal_text(39)), "unknown refusal");
+    same("the text of the last refusal", std::string(bafirolen_refusal_text(39)), "suite forbidden by the policy");
+    same("the text of no refusal", std::string(bafirolen_refusal_text(40)), "unknown refusal");
     read_and_write_again();
     old_form_again();
     only_authenticated();
     no_key();
+    policies();
     empty_vectors();
     frames();
     std::cout << "compared " << cases << " cases\n" << std::flush;

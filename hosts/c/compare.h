@@ -157,6 +157,12 @@ static inline uint32_t form_of(const uint8_t *header)
     return memcmp(header + (header[0] == 1 ? 20 : 35), "\0\2\0\0", 4) == 0 ? BAFIROLEN_OLD : BAFIROLEN_TODAY;
 }
 
+/* a policy that writes a version, and reads both */
+static inline uint32_t policy_for(uint32_t version)
+{
+    return version == 1 ? BAFIROLEN_FORBID_ENCRYPT_ALLOW_DECRYPT : BAFIROLEN_REQUIRE_ENCRYPT_ALLOW_DECRYPT;
+}
+
 static inline size_t append(uint8_t *m, size_t at, const void *bytes, size_t n)
 {
     memcpy(m + at, bytes, n);

@@ -20,22 +20,33 @@ static const uint8_t V2[108] = {
     0x40, 0x41, 0x42, 0x43, 0x44, 0x45, 0x46, 0x47, 0x48, 0x49, 0x4A, 0x4B, 0x4C, 0x4D, 0x4E, 0x4F,
     0x50, 0x51, 0x52, 0x53, 0x54, 0x55, 0x56, 0x57, 0x58, 0x59, 0x5A, 0x5B, 0x5C, 0x5D, 0x5E, 0x5F};
 
+/* without a policy by the function that has none */
+static BafirolenBody body_of(const uint8_t *m, size_t n, uint32_t which, uint32_t mode, uint32_t policy, uint32_t *p, size_t np,
+                             uint32_t *k, size_t nk)
+{
+    return policy == BAFIROLEN_NO_POLICY
+               ? bafirolen_read_header_body(m, n, 0, which, mode, BAFIROLEN_NO_MAX, 0, p, np, k, nk)
+               : bafirolen_read_header_body_under_policy(m, n, 0, which, mode, BAFIROLEN_NO_MAX, 0, policy, p, np, k, nk);
+}
+
 /* the same body by exact buffers: message of n bytes, tables of np and nk numbers */
 static void read_body(const uint8_t *m, size_t n, uint32_t which, uint32_t mode, size_t np, size_t nk)
 {
-    uint32_t *p, *k;
+    uint32_t *p, *k, policy;
     BafirolenBody exact, roomy;
-    fresh();
-    p = lend(pairs, np * sizeof *p);
-    k = lend(keys, nk * sizeof *k);
-    exact = bafirolen_read_header_body(lend_const(m, n), n, 0, which, mode, BAFIROLEN_NO_MAX, 0, p, np, k, nk);
-    roomy = bafirolen_read_header_body(m, n, 0, which, mode, BAFIROLEN_NO_MAX, 0, pairs, np, keys, nk);
-    clear_behind_numbers(&exact);
-    clear_behind_numbers(&roomy);
-    same_bytes("a body", &exact, &roomy, sizeof exact);
-    same_bytes("its pairs", p, pairs, np * sizeof *p);
-    same_bytes("its keys", k, keys, nk * sizeof *k);
-    let_go();
+    for (policy = BAFIROLEN_NO_POLICY; policy <= BAFIROLEN_REQUIRE_ENCRYPT_REQUIRE_DECRYPT; policy++) {
+        fresh();
+        p = lend(pairs, np * sizeof *p);
+        k = lend(keys, nk * sizeof *k);
+        exact = body_of(lend_const(m, n), n, which, mode, policy, p, np, k, nk);
+        roomy = body_of(m, n, which, mode, policy, pairs, np, keys, nk);
+        clear_behind_numbers(&exact);
+        clear_behind_numbers(&roomy);
+        same_bytes("a body", &exact, &roomy, sizeof exact);
+        same_bytes("its pairs", p, pairs, np * sizeof *p);
+        same_bytes("its keys", k, keys, nk * sizeof *k);
+        let_go();
+    }
 }
 
 /* the two sections, the record of a suite, one value, and what a host is told, at a start */
@@ -168,13 +179,14 @@ static void holds(const char *what, BafirolenWritten w, uint8_t *o, size_t room,
     memset(o, KEPT, room);
 }
 
-/* a header that was read, measured and written again at every room up to a few bytes more than its length */
+/* a header that was read, measured and written again at every room up to a few bytes more than its length; and the same under a
+ * policy that writes its version */
 static void write_again(const uint8_t *m, size_t n)
 {
     BafirolenBody b;
     BafirolenWritten w;
     const uint8_t *text, *id, *data;
-    const uint32_t *p, *k;
+    const uint32_t *p, *k, policy = policy_for(m[0]);
     size_t room;
     fresh();
     b = bafirolen_read_header_body(m, n, 0, BAFIROLEN_EITHER, BAFIROLEN_TOLERANT, BAFIROLEN_NO_MAX, 0, pairs, NUMBERS, keys,
@@ -194,6 +206,12 @@ static void write_again(const uint8_t *m, size_t n)
         w = bafirolen_write_header_body(b.numbers, id, b.messageIdLen, data, b.suiteDataLen, text, n, p, 4 * b.pairCount, k,
                                         6 * b.keyCount, o, room);
         holds("a header", w, o, room, m, n);
+        w = bafirolen_header_body_len_under_policy(b.numbers, policy, id, b.messageIdLen, data, b.suiteDataLen, text, n, p,
+                                                   4 * b.pairCount, k, 6 * b.keyCount);
+        written_is("the length of a header under a policy", w, 0, n);
+        w = bafirolen_write_header_body_under_policy(b.numbers, policy, id, b.messageIdLen, data, b.suiteDataLen, text, n, p,
+                                                     4 * b.pairCount, k, 6 * b.keyCount, o, room);
+        holds("a header under a policy", w, o, room, m, n);
         let_go();
     }
 }

@@ -130,6 +130,20 @@ static void bare_headers(uint32_t form, const uint8_t *image, size_t length)
     written_is("the length without an ID", w, BAFIROLEN_REFUSED_ID_LENGTH, 0);
 }
 
+/* under a policy that forbids it: a header whose ID is still to come, and one that has nothing but numbers */
+static void forbidden(void)
+{
+    static const uint64_t want[BODY_FIELDS] = {BAFIROLEN_REFUSED_FORBIDDEN_BY_POLICY};
+    const uint32_t policy = BAFIROLEN_REQUIRE_ENCRYPT_REQUIRE_DECRYPT;
+    const BafirolenNumbers n = headers[1].numbers;
+    BafirolenWritten w;
+    body_is("no tables", bafirolen_read_header_body_under_policy(H, 4, 0, 0, 0, 0, 0, policy, NULL, 0, NULL, 0), want);
+    w = bafirolen_header_body_len_under_policy(n, policy, NULL, 0, NULL, 0, NULL, 0, NULL, 0, NULL, 0);
+    written_is("the length of nothing", w, BAFIROLEN_REFUSED_FORBIDDEN_BY_POLICY, 0);
+    w = bafirolen_write_header_body_under_policy(n, policy, NULL, 0, NULL, 0, NULL, 0, NULL, 0, NULL, 0, NULL, 0);
+    written_is("nothing", w, BAFIROLEN_REFUSED_FORBIDDEN_BY_POLICY, 0);
+}
+
 /* frames: no table, and places of no bytes in no text */
 static void frames(void)
 {
@@ -168,8 +182,9 @@ static void required_keys(void)
  * without a key is refused by each that reads or writes its keys, and accepted by the others */
 static void whole(const struct export *e)
 {
+    const int under = e->call == read_body_under || e->call == write_body_under || e->call == body_length_under;
     const int of_keys = e->call == number || e->call == read_body || e->call == read_keys || e->call == write_keys
-                        || e->call == write_body || e->call == body_length;
+                        || e->call == write_body || e->call == body_length || under;
     ask(e->call, 0, NULL);
     if (h->key_numbers == 0 && of_keys) {
         same(e->name, answer.record.number, BAFIROLEN_REFUSED_NO_ENCRYPTED_DATA_KEY);
@@ -196,6 +211,7 @@ int main(void)
     writers();
     bare_headers(BAFIROLEN_TODAY, BARE, sizeof BARE);
     bare_headers(BAFIROLEN_OLD, OLD, sizeof OLD);
+    forbidden();
     frames();
     required_keys();
     free(allocated);

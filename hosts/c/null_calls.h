@@ -42,6 +42,14 @@ static void read_body(void)
     clear_behind_numbers(&answer.record.body);
 }
 
+static void read_body_under(void)
+{
+    answer.record.body = bafirolen_read_header_body_under_policy(
+        MESSAGE, 0, BAFIROLEN_EITHER, BAFIROLEN_TOLERANT, BAFIROLEN_NO_MAX, 0, BAFIROLEN_REQUIRE_ENCRYPT_ALLOW_DECRYPT,
+        LENT(1, pairs, NUMBERS), LENT(2, keys, NUMBERS));
+    clear_behind_numbers(&answer.record.body);
+}
+
 static void read_context(void)
 {
     answer.record.section = bafirolen_read_aad_section(MESSAGE, h->context, BAFIROLEN_TOLERANT, LENT(1, pairs, NUMBERS));
@@ -117,6 +125,22 @@ static void body_length(void)
         LENT(1, h->pair_table, h->pair_numbers), LENT(4, h->key_table, h->key_numbers));
 }
 
+static void write_body_under(void)
+{
+    answer.record.written = bafirolen_write_header_body_under_policy(
+        h->numbers, policy_for(h->numbers.version), LENT(3, h->bytes + h->id, h->id_length),
+        LENT(4, h->bytes + h->data, h->data_length), MESSAGE, LENT(1, h->pair_table, h->pair_numbers),
+        LENT(5, h->key_table, h->key_numbers), LENT(2, out, BYTES));
+}
+
+static void body_length_under(void)
+{
+    answer.record.written = bafirolen_header_body_len_under_policy(
+        h->numbers, policy_for(h->numbers.version), LENT(2, h->bytes + h->id, h->id_length),
+        LENT(3, h->bytes + h->data, h->data_length), MESSAGE, LENT(1, h->pair_table, h->pair_numbers),
+        LENT(4, h->key_table, h->key_numbers));
+}
+
 /* the key to find is all that is required */
 static void write_only_authenticated(void)
 {
@@ -146,6 +170,9 @@ static const struct export {
                {"bafirolen_write_header_auth_tag", write_record, 3},
                {"bafirolen_write_header_body", write_body, 6},
                {"bafirolen_header_body_len", body_length, 5},
+               {"bafirolen_read_header_body_under_policy", read_body_under, 3},
+               {"bafirolen_write_header_body_under_policy", write_body_under, 6},
+               {"bafirolen_header_body_len_under_policy", body_length_under, 5},
                {"bafirolen_write_only_authenticated", write_only_authenticated, 4}};
 
 #endif

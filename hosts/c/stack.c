@@ -49,7 +49,10 @@ static struct export {
                {"bafirolen_write_listing", listing, BAFIROLEN_STACK_LISTED, 0},
                {"bafirolen_write_aad_section", write_context, BAFIROLEN_STACK_WRITE, 0},
                {"bafirolen_write_header_body", write_body, BAFIROLEN_STACK_WRITE, 0},
-               {"bafirolen_header_body_len", body_length, BAFIROLEN_STACK_WRITE, 0}};
+               {"bafirolen_header_body_len", body_length, BAFIROLEN_STACK_WRITE, 0},
+               {"bafirolen_read_header_body_under_policy", read_body_under, BAFIROLEN_STACK_READ, 0},
+               {"bafirolen_write_header_body_under_policy", write_body_under, BAFIROLEN_STACK_WRITE, 0},
+               {"bafirolen_header_body_len_under_policy", body_length_under, BAFIROLEN_STACK_WRITE, 0}};
 
 /* the stack's lowest byte, above the guard; and what is written where a call reaches the guard */
 static uint8_t *lowest;
@@ -133,8 +136,10 @@ static void accepted(const struct export *e)
 {
     const int bare = e->call == version || e->call == number || e->call == position;
     const int finds = e->call == find || e->call == copy;
-    const int of_keys = e->call == read_body || e->call == read_keys || e->call == write_keys || e->call == write_body
-                        || e->call == body_length;
+    const int writes = e->call == write_body || e->call == write_body_under;
+    const int measures = e->call == body_length || e->call == body_length_under;
+    const int of_keys = e->call == read_body || e->call == read_body_under || e->call == read_keys || e->call == write_keys
+                        || writes || measures;
     if (e->call == write_frames || e->call == frames_length) {
         if (shape.fault == NO_FAULT) {
             frames_accepted(e);
@@ -145,7 +150,7 @@ static void accepted(const struct export *e)
         same(e->name, at_the_end.answer.number, BAFIROLEN_REFUSED_NO_ENCRYPTED_DATA_KEY);
     } else if (shape.fault == NO_FAULT && !bare && !(finds && (shape.pairs == 0 || find_key == absent))) {
         same(e->name, at_the_end.answer.number, BAFIROLEN_ACCEPTED);
-        if (e->call == write_body || e->call == body_length) {
+        if (writes || measures) {
             same(e->name, at_the_end.answer.written.length, body.length);
         }
     }

@@ -1,7 +1,7 @@
 //! The proved operations as they cross the boundary to C: a lent slice is a
 //! pointer and a length, a record is passed and returned by value.
-//! `include/bafirolen.h` has the same declarations for C; the crate
-//! `bafirolen` has safe functions over these.
+//! `include/bafirolen.h` and `include/bafirolen_policy.h` have the same
+//! declarations for C; the crate `bafirolen` has safe functions over these.
 //!
 //! # Safety
 //!
@@ -22,16 +22,18 @@
 #![no_std]
 #![deny(missing_docs)]
 
+mod policy;
 mod records;
 
+pub use policy::*;
 pub use records::{
     BafirolenAuth, BafirolenBody, BafirolenNumbers, BafirolenPlace, BafirolenSection,
     BafirolenWritten,
 };
 
 /// The declarations here are those of an archive whose [`bafirolen_version`]
-/// answers this. A host of version 7 knows no refusal 38.
-pub const VERSION: u32 = 8;
+/// answers this. A host of version 8 knows no refusal 39.
+pub const VERSION: u32 = 9;
 
 extern "C" {
     /// Which declarations the archive was made for.

@@ -2,8 +2,9 @@
 
 use crate::request::max_asked;
 use crate::{
-    Draft, Keys, Numbers, Pairs, Place, Refusal, Request, NUMBERS_PER_KEY, NUMBERS_PER_PAIR,
+    Draft, Keys, Numbers, Pairs, Place, Policy, Refusal, Request, NUMBERS_PER_KEY, NUMBERS_PER_PAIR,
 };
+use bafirolen_sys::BafirolenBody;
 use core::fmt;
 
 /// An accepted header body: its numbers and tail, and its parts as they lie in
@@ -98,7 +99,8 @@ impl<'m, 't> Body<'m, 't> {
     /// with the message as the text. Into an output that is long enough the
     /// writer then gives the bytes that were read, those from the start to
     /// [`tail`](Body::tail). (A reader of one version may give a frame length
-    /// that the writer refuses by 20.)
+    /// that the writer refuses by 20.) It names no policy, whatever policy the body
+    /// was read under: [`under`](Draft::under) names one.
     ///
     /// ```
     /// use bafirolen::{read_header_body, write_header_body, Form, Request};
@@ -160,6 +162,8 @@ impl fmt::Debug for Body<'_, '_> {
 /// - 5 [`MessageType`](Refusal::MessageType), in version 1;
 /// - 6 [`UnknownSuite`](Refusal::UnknownSuite);
 /// - 7 [`SuiteOfOtherVersion`](Refusal::SuiteOfOtherVersion);
+/// - 39 [`ForbiddenByPolicy`](Refusal::ForbiddenByPolicy), in version 1, if the
+///   policy requires version 2 to be read;
 /// - 32 [`PastSection`](Refusal::PastSection), of the count and of the length
 ///   and bytes of each key and value in turn;
 /// - 8 [`CountInEmptyContext`](Refusal::CountInEmptyContext);
@@ -187,24 +191,7 @@ pub fn read_header_body<'m, 't>(
     pairs: &'t mut [u32],
     keys: &'t mut [u32],
 ) -> Result<Body<'m, 't>, Refusal> {
-    let (has_max, max) = max_asked(request.max);
-    // SAFETY: pointers and lengths are the slices'; each table is borrowed
-    // alone, so they overlap neither each other nor the message.
-    let record = unsafe {
-        bafirolen_sys::bafirolen_read_header_body(
-            message.as_ptr(),
-            message.len(),
-            start,
-            request.which.asked(),
-            request.mode.asked(),
-            has_max,
-            max,
-            pairs.as_mut_ptr(),
-            pairs.len(),
-            keys.as_mut_ptr(),
-            keys.len(),
-        )
-    };
+    let record = record(message, start, request, pairs, keys);
     Refusal::test(record.number, record.position)?;
     Ok(Body {
         numbers: Numbers::of_record(record.numbers),
@@ -217,4 +204,33 @@ pub fn read_header_body<'m, 't>(
         keys,
         key_count: record.key_count,
     })
+}
+
+/// What the archive answers.
+#[inline]
+fn record(
+    message: &[u8],
+    start: u64,
+    request: Request,
+    pairs: &mut [u32],
+    keys: &mut [u32],
+) -> BafirolenBody {
+    let (which, mode) = (request.which.asked(), request.mode.asked());
+    let (has_max, max) = max_asked(request.max);
+    let policy = request.policy.map(Policy::number);
+    let (m, m_len) = (message.as_ptr(), message.len());
+    let (p, p_len) = (pairs.as_mut_ptr(), pairs.len());
+    let (k, k_len) = (keys.as_mut_ptr(), keys.len());
+    // SAFETY: pointers and lengths are the slices'; each table is borrowed
+    // alone, so they overlap neither each other nor the message.
+    unsafe {
+        match policy {
+            None => bafirolen_sys::bafirolen_read_header_body(
+                m, m_len, start, which, mode, has_max, max, p, p_len, k, k_len,
+            ),
+            Some(policy) => bafirolen_sys::bafirolen_read_header_body_under_policy(
+                m, m_len, start, which, mode, has_max, max, policy, p, p_len, k, k_len,
+            ),
+        }
+    }
 }

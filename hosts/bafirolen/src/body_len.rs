@@ -1,10 +1,11 @@
 //! How long a body is, before it is written.
 
 use crate::writes::length;
-use crate::{Draft, Refusal};
+use crate::{Draft, Policy, Refusal};
 
 /// Says how long an output [`write_header_body`](crate::write_header_body)
-/// needs for a draft, in the draft's form: how many bytes it would write.
+/// needs for a draft, in the draft's form and under its policy if it names one:
+/// how many bytes it would write.
 ///
 /// A refusal here is the writer's answer whatever output it is lent. Where
 /// there is none, the writer answers 28
@@ -44,6 +45,8 @@ use crate::{Draft, Refusal};
 /// - 5 [`MessageType`](Refusal::MessageType);
 /// - 6 [`UnknownSuite`](Refusal::UnknownSuite);
 /// - 7 [`SuiteOfOtherVersion`](Refusal::SuiteOfOtherVersion);
+/// - 39 [`ForbiddenByPolicy`](Refusal::ForbiddenByPolicy), if the draft names a
+///   policy that does not write its version;
 /// - 24 [`IdLength`](Refusal::IdLength);
 /// - of the pairs 26 [`TableOrPlace`](Refusal::TableOrPlace),
 ///   27 [`CountOrPartTooLong`](Refusal::CountOrPartTooLong), of each
@@ -61,21 +64,25 @@ use crate::{Draft, Refusal};
 /// - 20 [`FrameLength`](Refusal::FrameLength).
 #[inline]
 pub fn header_body_len(draft: &Draft<'_>) -> Result<usize, Refusal> {
+    let numbers = draft.numbers.record();
+    let (id, id_len) = (draft.message_id.as_ptr(), draft.message_id.len());
+    let (data, data_len) = (draft.suite_data.as_ptr(), draft.suite_data.len());
+    let (text, text_len) = (draft.text.as_ptr(), draft.text.len());
+    let (pairs, pairs_len) = (draft.pairs.as_ptr(), draft.pairs.len());
+    let (keys, keys_len) = (draft.keys.as_ptr(), draft.keys.len());
+    let policy = draft.policy.map(Policy::number);
     // SAFETY: pointers and lengths are the slices', which are only read.
     length(unsafe {
-        bafirolen_sys::bafirolen_header_body_len(
-            draft.numbers.record(),
-            draft.message_id.as_ptr(),
-            draft.message_id.len(),
-            draft.suite_data.as_ptr(),
-            draft.suite_data.len(),
-            draft.text.as_ptr(),
-            draft.text.len(),
-            draft.pairs.as_ptr(),
-            draft.pairs.len(),
-            draft.keys.as_ptr(),
-            draft.keys.len(),
-        )
+        match policy {
+            None => bafirolen_sys::bafirolen_header_body_len(
+                numbers, id, id_len, data, data_len, text, text_len, pairs, pairs_len, keys,
+                keys_len,
+            ),
+            Some(policy) => bafirolen_sys::bafirolen_header_body_len_under_policy(
+                numbers, policy, id, id_len, data, data_len, text, text_len, pairs, pairs_len,
+                keys, keys_len,
+            ),
+        }
     })
 }
 

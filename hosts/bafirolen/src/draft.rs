@@ -1,6 +1,6 @@
 //! What a body is written from.
 
-use crate::{Form, IV_LEN, V1_MESSAGE_TYPE};
+use crate::{Form, Policy, IV_LEN, V1_MESSAGE_TYPE};
 use bafirolen_sys::BafirolenNumbers;
 
 /// The fields of a body that are numbers, and its form, as the reader gives
@@ -97,7 +97,9 @@ impl Numbers {
 /// What a body is written from. By default all of it is empty or 0, which the
 /// writer refuses. A draft may be without pairs, and needs at least one
 /// encrypted data key before it is written: without, it is refused by 38
-/// ([`NoEncryptedDataKey`](crate::Refusal::NoEncryptedDataKey)).
+/// ([`NoEncryptedDataKey`](crate::Refusal::NoEncryptedDataKey)). It may name a
+/// commitment policy, which decides whether its version is written or refused by
+/// 39, and nothing of what is written.
 ///
 /// [`Body::draft`](crate::Body::draft) gives that of a body that was read.
 ///
@@ -149,12 +151,15 @@ pub struct Draft<'a> {
     /// provider ID, of the provider info and of the ciphertext. There is at least
     /// one, or the draft is refused by 38.
     pub keys: &'a [u32],
+    /// The commitment policy that the body is written and measured under; `None`:
+    /// no version is refused by 39.
+    pub policy: Option<Policy>,
 }
 
 impl<'a> Draft<'a> {
-    /// A draft without suite data, pairs and keys. Before it is written, it needs
-    /// a key, which [`with_tables`](Draft::with_tables) gives it, and in version 2
-    /// suite data.
+    /// A draft without suite data, pairs and keys, and under no policy. Before it
+    /// is written, it needs a key, which [`with_tables`](Draft::with_tables) gives
+    /// it, and in version 2 suite data.
     #[inline]
     pub const fn new(numbers: Numbers, message_id: &'a [u8]) -> Draft<'a> {
         Draft {
@@ -164,6 +169,7 @@ impl<'a> Draft<'a> {
             text: &[],
             pairs: &[],
             keys: &[],
+            policy: None,
         }
     }
 
@@ -185,6 +191,15 @@ impl<'a> Draft<'a> {
         self.text = text;
         self.pairs = pairs;
         self.keys = keys;
+        self
+    }
+
+    /// The same draft, under this commitment policy: a version that it does not
+    /// write is refused by 39. To name none again, set [`policy`](Draft::policy)
+    /// to `None`.
+    #[inline]
+    pub const fn under(mut self, policy: Policy) -> Draft<'a> {
+        self.policy = Some(policy);
         self
     }
 }

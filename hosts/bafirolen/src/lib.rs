@@ -88,6 +88,9 @@
 //! bytes that were read, also where these have an empty context in its old
 //! [`Form`].
 //!
+//! A [`Request`] and a [`Draft`] may name a commitment [`Policy`]: a version that
+//! it forbids to be read, or to be written, is then refused by 39.
+//!
 //! Behind a body [`write_header_auth_tag`] writes its authentication record, and
 //! behind that [`write_frames`] writes the frames, whose IVs, contents and tags a
 //! cipher gave. Up to 65,535 frames that were read are written again, from their
@@ -184,6 +187,7 @@ mod host;
 mod only_authenticated;
 mod parts;
 mod place;
+mod policy;
 mod refusal;
 mod remedy;
 mod request;
@@ -208,6 +212,7 @@ pub use host::{header_number, header_position, version, write_listing};
 pub use only_authenticated::write_only_authenticated;
 pub use parts::{Key, Keys, Pair, Pairs};
 pub use place::Place;
+pub use policy::Policy;
 pub use refusal::Refusal;
 pub use remedy::Remedy;
 pub use request::{Mode, Request, Which};

@@ -45,11 +45,13 @@ pub enum Remedy {
     /// is wanted.
     LendMore,
     /// All others: the request is refused whatever more is fetched or lent. A
-    /// reader's caller rejects the message (4, 15 and 21 depend on what was
+    /// reader's caller rejects the message (4, 15, 21 and 39 depend on what was
     /// asked for), a writer's caller corrects the fields, the frames (36 and 37
     /// are refused in writing alone, and 35 in reading too) or the required
     /// table (31), and one who looked for a key (29) does without: the context
-    /// is good and lacks it. 38 is a reader's and a writer's: a message without
-    /// an encrypted data key is rejected, and a draft is given one.
+    /// is good and lacks it. 38 and 39 are a reader's and a writer's: a message
+    /// without an encrypted data key is rejected, and a draft is given one; a
+    /// message of a version that the policy forbids is rejected, and a draft is
+    /// made one of the other version.
     Reject,
 }

@@ -1,6 +1,8 @@
 //! What a reader is asked for, and the numbers that say it across the
 //! boundary.
 
+use crate::Policy;
+
 /// Whether 00 02 00 00, the old form of an empty context, is accepted.
 #[derive(Clone, Copy, Debug, Default, PartialEq, Eq, Hash)]
 pub enum Mode {
@@ -27,16 +29,20 @@ pub enum Which {
     V2Only,
 }
 
-/// A request to read a body. By default either version is taken, tolerantly
-/// and with any count of keys above 0.
+/// A request to read a body. By default either version is taken, tolerantly,
+/// with any count of keys above 0 and under no policy.
 ///
 /// ```
-/// use bafirolen::{Mode, Request, Which};
+/// use bafirolen::{Mode, Policy, Request, Which};
 ///
 /// let request = Request::default().only(Which::V2Only).strict().at_most(3);
 /// assert_eq!(request.which, Which::V2Only);
 /// assert_eq!(request.mode, Mode::Strict);
 /// assert_eq!(request.max, Some(3));
+/// assert_eq!(request.policy, None);
+///
+/// let policy = Policy::RequireEncryptRequireDecrypt;
+/// assert_eq!(request.under(policy).policy, Some(policy));
 /// ```
 #[derive(Clone, Copy, Debug, Default, PartialEq, Eq, Hash)]
 #[non_exhaustive]
@@ -48,6 +54,9 @@ pub struct Request {
     pub mode: Mode,
     /// The greatest count of keys that is taken; `None`: any above 0.
     pub max: Option<u64>,
+    /// The commitment policy that the body is read under; `None`: no version is
+    /// refused by 39.
+    pub policy: Option<Policy>,
 }
 
 impl Request {
@@ -58,6 +67,7 @@ impl Request {
             which: Which::Either,
             mode: Mode::Tolerant,
             max: None,
+            policy: None,
         }
     }
 
@@ -80,6 +90,15 @@ impl Request {
     #[inline]
     pub const fn at_most(mut self, keys: u64) -> Request {
         self.max = Some(keys);
+        self
+    }
+
+    /// The same request, under this commitment policy: a version that it does
+    /// not read is refused by 39. To name none again, set
+    /// [`policy`](Request::policy) to `None`.
+    #[inline]
+    pub const fn under(mut self, policy: Policy) -> Request {
+        self.policy = Some(policy);
         self
     }
 }

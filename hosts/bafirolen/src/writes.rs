@@ -1,6 +1,6 @@
 //! Writing sections and bodies.
 
-use crate::{Draft, Refusal};
+use crate::{Draft, Policy, Refusal};
 use bafirolen_sys::BafirolenWritten;
 
 /// The length of what was written, or would be: a `usize` of this platform has
@@ -75,8 +75,8 @@ pub fn write_encrypted_data_keys_section(
 }
 
 /// Writes the body of a draft to the front of `out`, an empty context in the
-/// draft's form; answers its length, which
-/// [`header_body_len`](crate::header_body_len) gives before.
+/// draft's form, under the draft's policy if it names one; answers its length,
+/// which [`header_body_len`](crate::header_body_len) gives before.
 ///
 /// # Errors
 ///
@@ -85,6 +85,8 @@ pub fn write_encrypted_data_keys_section(
 /// - 5 [`MessageType`](Refusal::MessageType);
 /// - 6 [`UnknownSuite`](Refusal::UnknownSuite);
 /// - 7 [`SuiteOfOtherVersion`](Refusal::SuiteOfOtherVersion);
+/// - 39 [`ForbiddenByPolicy`](Refusal::ForbiddenByPolicy), if the draft names a
+///   policy that does not write its version;
 /// - 24 [`IdLength`](Refusal::IdLength);
 /// - of the pairs 26 [`TableOrPlace`](Refusal::TableOrPlace),
 ///   27 [`CountOrPartTooLong`](Refusal::CountOrPartTooLong), of each
@@ -103,22 +105,25 @@ pub fn write_encrypted_data_keys_section(
 /// - 28 [`OutputTooShort`](Refusal::OutputTooShort).
 #[inline]
 pub fn write_header_body(draft: &Draft<'_>, out: &mut [u8]) -> Result<usize, Refusal> {
+    let numbers = draft.numbers.record();
+    let (id, id_len) = (draft.message_id.as_ptr(), draft.message_id.len());
+    let (data, data_len) = (draft.suite_data.as_ptr(), draft.suite_data.len());
+    let (text, text_len) = (draft.text.as_ptr(), draft.text.len());
+    let (pairs, pairs_len) = (draft.pairs.as_ptr(), draft.pairs.len());
+    let (keys, keys_len) = (draft.keys.as_ptr(), draft.keys.len());
+    let (out, out_len) = (out.as_mut_ptr(), out.len());
+    let policy = draft.policy.map(Policy::number);
     // SAFETY: as for `write_aad_section`.
     length(unsafe {
-        bafirolen_sys::bafirolen_write_header_body(
-            draft.numbers.record(),
-            draft.message_id.as_ptr(),
-            draft.message_id.len(),
-            draft.suite_data.as_ptr(),
-            draft.suite_data.len(),
-            draft.text.as_ptr(),
-            draft.text.len(),
-            draft.pairs.as_ptr(),
-            draft.pairs.len(),
-            draft.keys.as_ptr(),
-            draft.keys.len(),
-            out.as_mut_ptr(),
-            out.len(),
-        )
+        match policy {
+            None => bafirolen_sys::bafirolen_write_header_body(
+                numbers, id, id_len, data, data_len, text, text_len, pairs, pairs_len, keys,
+                keys_len, out, out_len,
+            ),
+            Some(policy) => bafirolen_sys::bafirolen_write_header_body_under_policy(
+                numbers, policy, id, id_len, data, data_len, text, text_len, pairs, pairs_len,
+                keys, keys_len, out, out_len,
+            ),
+        }
     })
 }

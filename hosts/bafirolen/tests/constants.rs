@@ -2,9 +2,11 @@
 
 use bafirolen::*;
 
-const HEADERS: [&str; 2] = [
+const POLICIES: &str = include_str!("../../../include/bafirolen_policy.h");
+const HEADERS: [&str; 3] = [
     include_str!("../../../include/bafirolen.h"),
     include_str!("../../../include/bafirolen_records.h"),
+    POLICIES,
 ];
 
 /// The value that a header defines the name by: a number, or a product of a
@@ -66,4 +68,33 @@ fn are_those_of_c() {
     let names: std::collections::BTreeSet<&str> = constants.iter().map(|row| row.0).collect();
     assert_eq!(names.len(), constants.len(), "a name in two rows");
     assert_eq!(names.len(), defined_names(), "names that C has");
+}
+
+/// The declarations have the numbers, and the wrapper an enum for them.
+#[test]
+fn policies_are_those_of_c() {
+    let enumerators = POLICIES.lines().filter_map(|line| {
+        let (name, number) = line.strip_prefix("    BAFIROLEN_")?.split_once(" = ")?;
+        Some((
+            name,
+            number.trim_end_matches(',').parse().expect("a number"),
+        ))
+    });
+    let wanted = [
+        ("NO_POLICY", bafirolen_sys::NO_POLICY),
+        (
+            "FORBID_ENCRYPT_ALLOW_DECRYPT",
+            bafirolen_sys::FORBID_ENCRYPT_ALLOW_DECRYPT,
+        ),
+        (
+            "REQUIRE_ENCRYPT_ALLOW_DECRYPT",
+            bafirolen_sys::REQUIRE_ENCRYPT_ALLOW_DECRYPT,
+        ),
+        (
+            "REQUIRE_ENCRYPT_REQUIRE_DECRYPT",
+            bafirolen_sys::REQUIRE_ENCRYPT_REQUIRE_DECRYPT,
+        ),
+    ];
+    assert_eq!(enumerators.collect::<Vec<(&str, u32)>>(), wanted);
+    assert_eq!(wanted.map(|row| row.1), [0, 1, 2, 3]);
 }

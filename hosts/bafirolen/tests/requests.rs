@@ -11,6 +11,7 @@ fn requests_are_chained() {
     let request = Request::default();
     assert_eq!(request.which, Which::Either);
     assert_eq!((request.mode, request.max), (Mode::Tolerant, None));
+    assert_eq!(request.policy, None);
     let mut wanted = request;
     wanted.mode = Mode::Strict;
     assert_eq!(request.strict(), wanted);
@@ -18,6 +19,10 @@ fn requests_are_chained() {
     assert_eq!(request.strict().only(Which::V1Only), wanted);
     wanted.max = Some(3);
     assert_eq!(request.at_most(3).only(Which::V1Only).strict(), wanted);
+    let policy = Policy::RequireEncryptAllowDecrypt;
+    wanted.policy = Some(policy);
+    let asked = request.under(policy).at_most(3).only(Which::V1Only);
+    assert_eq!(asked.strict(), wanted);
 }
 
 /// H, with the old form of an empty context if asked for.
@@ -46,6 +51,11 @@ fn each_part_of_a_request_is_asked() {
     );
     assert_eq!(answer(false, request.at_most(1)), Ok(58));
     assert_eq!(answer(false, request.at_most(0)), Err(Refusal::TooManyKeys));
+    let policy = Policy::RequireEncryptAllowDecrypt;
+    assert_eq!(answer(true, request.under(policy)), Ok(48));
+    let policy = Policy::RequireEncryptRequireDecrypt;
+    let refused = answer(true, request.under(policy));
+    assert_eq!(refused, Err(Refusal::ForbiddenByPolicy));
 }
 
 #[test]

@@ -2,7 +2,7 @@
 //! record would be copied, and the copy measured too.
 
 use crate::answer::told;
-use bafirolen::{Draft, Form, Mode, Numbers, Refusal, Request};
+use bafirolen::{Draft, Form, Mode, Numbers, Policy, Refusal, Request};
 use generator::fields::Fields;
 use generator::image;
 use generator::tables::Lent;
@@ -132,6 +132,16 @@ pub fn read_body(message: &[u8], pairs: &mut [u32], keys: &mut [u32]) -> u64 {
 }
 
 #[inline]
+pub fn read_body_under(policy: Policy, message: &[u8], pairs: &mut [u32], keys: &mut [u32]) -> u64 {
+    let request = Request::default().under(policy);
+    told(
+        bafirolen::read_header_body(message, 0, request, pairs, keys)
+            .map(|body| body.tail)
+            .map_err(number),
+    )
+}
+
+#[inline]
 fn draft<'a>(fields: &'a Fields, lent: &'a Lent) -> Draft<'a> {
     let (suite, content_type, frame_length) =
         (fields.suite, fields.content_type, fields.frame_length);
@@ -152,6 +162,15 @@ fn draft<'a>(fields: &'a Fields, lent: &'a Lent) -> Draft<'a> {
 pub fn write_body(fields: &Fields, lent: &Lent, out: &mut [u8]) -> u64 {
     told(
         bafirolen::write_header_body(&draft(fields, lent), out)
+            .map(|length| length as u64)
+            .map_err(number),
+    )
+}
+
+#[inline]
+pub fn write_body_under(policy: Policy, fields: &Fields, lent: &Lent, out: &mut [u8]) -> u64 {
+    told(
+        bafirolen::write_header_body(&draft(fields, lent).under(policy), out)
             .map(|length| length as u64)
             .map_err(number),
     )

@@ -4,7 +4,7 @@
 use crate::answer::told;
 use generator::fields::Fields;
 use generator::tables::Lent;
-use reference::{Body, Mode, Numbers, Refusal, Which};
+use reference::{Body, Draft, Mode, Numbers, Policy, Refusal, Request, Which};
 
 fn number(refusal: Refusal) -> u32 {
     refusal.number
@@ -94,11 +94,39 @@ pub fn read_body(message: &[u8], pairs: &mut [u32], keys: &mut [u32]) -> u64 {
 }
 
 #[inline]
+pub fn read_body_under(policy: Policy, message: &[u8], pairs: &mut [u32], keys: &mut [u32]) -> u64 {
+    let request = Request {
+        which: Which::Either,
+        mode: Mode::Tolerant,
+        max: None,
+        policy,
+    };
+    told(
+        reference::read_header_body_under_policy(message, 0, request, pairs, keys)
+            .map(|body| body.tail)
+            .map_err(number),
+    )
+}
+
+#[inline]
 pub fn write_body(fields: &Fields, lent: &Lent, out: &mut [u8]) -> u64 {
     let numbers = Numbers::from(fields.numbers());
     let (id, data) = (&fields.id, &fields.suite_data);
     let (text, pairs, keys) = (&lent.text, &lent.pairs, &lent.keys);
     told(reference::write_header_body(&numbers, id, data, text, pairs, keys, out).map_err(number))
+}
+
+#[inline]
+pub fn write_body_under(policy: Policy, fields: &Fields, lent: &Lent, out: &mut [u8]) -> u64 {
+    let draft = Draft {
+        numbers: Numbers::from(fields.numbers()),
+        id: &fields.id,
+        suite_data: &fields.suite_data,
+        text: &lent.text,
+        pairs: &lent.pairs,
+        keys: &lent.keys,
+    };
+    told(reference::write_header_body_under_policy(policy, &draft, out).map_err(number))
 }
 
 #[inline]

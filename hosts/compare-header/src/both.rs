@@ -1,9 +1,12 @@
 //! Ours and the separate implementation at once, as the rows that are written
 //! by hand ask them: what both answered is what the row has.
 
+use crate::crossing;
 use crate::numbers::{self, answered, numbers, Answer};
-use crate::{lengths, reads, request, writes};
+use crate::records::list;
+use crate::{lengths, reads, request, under_policy, writes};
 use bafirolen::{Draft, Mode, Which};
+use bafirolen_sys::BafirolenBody;
 use generator::rows::{Asked, Body, Codec, Lent, Place, Record, Refused, Section, Written};
 
 /// Hands each request to both; the tables and outputs afterwards are both's.
@@ -63,6 +66,21 @@ fn body(body: reference::Body) -> Body {
     }
 }
 
+/// What a record says was read.
+fn read(record: BafirolenBody) -> Result<Body, Refused> {
+    match record.number {
+        0 => Ok(Body {
+            numbers: list(record.numbers),
+            id: (record.message_id_start, record.message_id_len),
+            pairs: record.pair_count as u32,
+            keys: record.key_count as u32,
+            suite_data: (record.suite_data_start, record.suite_data_len),
+            tail: record.tail,
+        }),
+        number => Err((number as u32, record.position)),
+    }
+}
+
 impl Codec for Both {
     fn read_section(&self, message: &[u8], start: u64, strict: bool, table: &mut [u32]) -> Section {
         let (answer, after) = reads::read_aad_section(message, start, mode(strict), table);
@@ -104,6 +122,28 @@ impl Codec for Both {
         pairs.copy_from_slice(&tables.pairs);
         keys.copy_from_slice(&tables.keys);
         row(answer, |_| body(theirs.expect("ours was accepted")))
+    }
+
+    fn read_body_under(
+        &self,
+        policy: u32,
+        message: &[u8],
+        asked: Asked,
+        pairs: &mut [u32],
+        keys: &mut [u32],
+    ) -> Result<Body, Refused> {
+        let numbers = crossing::Asked {
+            which: asked.version,
+            mode: asked.strict.into(),
+            has_max: asked.max.is_some().into(),
+            max: asked.max.unwrap_or(0),
+        };
+        let message = (message, asked.start);
+        let (record, tables) =
+            under_policy::read_header_body(policy, message, numbers, pairs, keys);
+        pairs.copy_from_slice(&tables.pairs);
+        keys.copy_from_slice(&tables.keys);
+        read(record)
     }
 
     fn read_record(&self, message: &[u8], start: u64, suite: u32) -> Record {
@@ -148,6 +188,15 @@ impl Codec for Both {
 
     fn write_body(&self, lent: Lent, out: &mut [u8]) -> Written {
         written(writes::write_header_body(draft(lent), out), out)
+    }
+
+    fn body_len_under(&self, policy: u32, lent: Lent) -> Written {
+        let answer = under_policy::header_body_len(policy, lent);
+        row(answer, |length| length as u64)
+    }
+
+    fn write_body_under(&self, policy: u32, lent: Lent, out: &mut [u8]) -> Written {
+        written(under_policy::write_header_body(policy, lent, out), out)
     }
 
     fn frames_len(&self, length: u32, text: &[u8], table: &[u32]) -> Written {

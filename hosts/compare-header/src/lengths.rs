@@ -2,7 +2,7 @@
 //! what it foretells of the writer.
 
 use crate::kept::Kept;
-use crate::numbers::{refused, their_numbers, Answer};
+use crate::numbers::{self, refused, Answer};
 use crate::reads::few;
 use crate::writes::shown;
 use bafirolen::{Draft, Refusal};
@@ -18,14 +18,8 @@ pub fn header_body_len(draft: &Draft) -> Answer<usize> {
     let answer = bafirolen::header_body_len(draft);
     bytes.assert_unchanged("bytes of a length");
     tables.assert_unchanged("tables of a length");
-    let wanted = reference::header_body_len(
-        &their_numbers(draft.numbers),
-        draft.message_id,
-        draft.suite_data,
-        draft.text,
-        draft.pairs,
-        draft.keys,
-    );
+    let policy = numbers::policy(draft.policy);
+    let wanted = reference::header_body_len_under_policy(policy, &numbers::draft(draft));
     let wanted = wanted.map(|length| length as usize).map_err(refused);
     assert!(
         answer == wanted,

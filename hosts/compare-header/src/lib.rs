@@ -6,10 +6,15 @@
 //! each call, of up to 1 MiB once in 17 times. The tests only make requests.
 //! Each body that is to be written, and each run of frames, is measured first,
 //! and written into outputs that just hold it and just don't.
-#![forbid(unsafe_code)]
+//!
+//! `under_policy` does the same with bodies under a policy, by its number, and
+//! with the records as they cross: a wrapper has no unknown policy. For that
+//! `crossing`, and nothing else here, is unsafe.
+#![deny(unsafe_code)]
 
 pub mod answers;
 pub mod both;
+pub mod crossing;
 pub mod every;
 pub mod expected;
 pub mod guarded;
@@ -18,11 +23,13 @@ pub mod lengths;
 pub mod numbers;
 mod parts;
 pub mod reads;
+pub mod records;
 pub mod scale;
+pub mod under_policy;
 pub mod writes;
 
 use bafirolen::{Mode, Request, Which};
-pub use report::{compared, Coverage, BODY_READERS};
+pub use report::{compared, Coverage, BODY_READERS, BODY_READERS_UNDER_POLICY};
 
 pub const fn request(which: Which, mode: Mode, max: Option<u64>) -> Request {
     // Field by field, since a request may get more of them.

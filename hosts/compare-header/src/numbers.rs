@@ -2,6 +2,7 @@
 //! implementation can be held against each other once nothing is lent.
 
 use bafirolen::{Context, Form, Frames, KeySection, Mode, Numbers, Place, Refusal, Which};
+use bafirolen::{Draft, Policy, Request};
 use reference::body::{OLD, TODAY};
 
 /// An answer: what was accepted, or the refusal.
@@ -126,6 +127,38 @@ pub fn which(which: Which) -> reference::Which {
         Which::Either => reference::Which::Either,
         Which::V1Only => reference::Which::V1,
         Which::V2Only => reference::Which::V2,
+    }
+}
+
+/// Ours names a policy or doesn't, and has none that is unknown.
+pub fn policy(policy: Option<Policy>) -> reference::Policy {
+    match policy {
+        None => reference::Policy::None,
+        Some(Policy::ForbidEncryptAllowDecrypt) => reference::Policy::ForbidEncryptAllowDecrypt,
+        Some(Policy::RequireEncryptAllowDecrypt) => reference::Policy::RequireEncryptAllowDecrypt,
+        Some(Policy::RequireEncryptRequireDecrypt) => {
+            reference::Policy::RequireEncryptRequireDecrypt
+        }
+    }
+}
+
+pub fn request(request: Request) -> reference::Request {
+    reference::Request {
+        which: which(request.which),
+        mode: mode(request.mode),
+        max: request.max,
+        policy: policy(request.policy),
+    }
+}
+
+pub fn draft<'a>(ours: &Draft<'a>) -> reference::Draft<'a> {
+    reference::Draft {
+        numbers: their_numbers(ours.numbers),
+        id: ours.message_id,
+        suite_data: ours.suite_data,
+        text: ours.text,
+        pairs: ours.pairs,
+        keys: ours.keys,
     }
 }
 

@@ -156,12 +156,10 @@ pub fn read_header_body(
         bafirolen::read_header_body(message, start, request, our_pairs.lend(), our_keys.lend());
     kept.assert_unchanged("read a body");
     let answer = read.as_ref().map(Ours::owned).map_err(Refusal::clone);
-    let wanted = reference::read_header_body(
+    let wanted = reference::read_header_body_under_policy(
         message,
         start,
-        numbers::which(request.which),
-        numbers::mode(request.mode),
-        request.max,
+        numbers::request(request),
         &mut tables.pairs,
         &mut tables.keys,
     )

@@ -3,20 +3,22 @@
 use crate::guarded::Guarded;
 use crate::kept::Kept;
 use crate::lengths::{foretold, frames_len, header_body_len, rooms};
-use crate::numbers::{refused, their_numbers, Answer};
+use crate::numbers::{self, refused, Answer};
 use crate::reads::{few, shown_at};
 use bafirolen::{Draft, Refusal};
 
 /// A draft with the fronts of what it lends, as a failure shows it.
 pub fn shown<'a>(draft: &Draft<'a>) -> Draft<'a> {
-    Draft::new(draft.numbers, few(draft.message_id))
+    let mut front = Draft::new(draft.numbers, few(draft.message_id))
         .with_suite_data(few(draft.suite_data))
-        .with_tables(few(draft.text), few(draft.pairs), few(draft.keys))
+        .with_tables(few(draft.text), few(draft.pairs), few(draft.keys));
+    front.policy = draft.policy;
+    front
 }
 
 /// The answers, and the outputs and what is lent beside them afterwards; gives
 /// ours, and the output.
-fn both<const BYTES: usize, const TABLES: usize>(
+pub(crate) fn both<const BYTES: usize, const TABLES: usize>(
     out: &[u8],
     lent: ([&[u8]; BYTES], [&[u32]; TABLES]),
     what: impl Fn() -> String,
@@ -125,7 +127,7 @@ const FILL: u8 = 0xEE;
 
 /// Writes into the output, and into others about the length, which was asked
 /// before: each answer is the one foretold.
-fn about_length<const N: usize>(
+pub(crate) fn about_length<const N: usize>(
     tables: [&[u32]; N],
     length: Answer<usize>,
     out: &[u8],
@@ -179,15 +181,8 @@ fn write_body(draft: &Draft, out: &[u8]) -> (Answer<usize>, Vec<u8>) {
         || format!("{:02X?}", shown(draft)),
         |out| bafirolen::write_header_body(draft, out),
         |out| {
-            reference::write_header_body(
-                &their_numbers(draft.numbers),
-                draft.message_id,
-                draft.suite_data,
-                draft.text,
-                draft.pairs,
-                draft.keys,
-                out,
-            )
+            let policy = numbers::policy(draft.policy);
+            reference::write_header_body_under_policy(policy, &numbers::draft(draft), out)
         },
     )
 }

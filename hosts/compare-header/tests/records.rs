@@ -3,7 +3,10 @@
 
 use bafirolen_sys::*;
 use compare_header::compared;
+use compare_header::crossing::{self, Asked};
+use compare_header::records::{body, mode_of, refusal, which_of};
 use compare_header::scale::seeds;
+use compare_header::under_policy::read_header_body;
 use generator::auth_cases::auth_case;
 use generator::body_cases::body_case;
 use generator::frame_cases::frame_case;
@@ -22,22 +25,6 @@ fn choice(random: &mut Random) -> u32 {
     }
 }
 
-fn mode_of(mode: u32) -> reference::Mode {
-    if mode == 0 {
-        reference::Mode::Tolerant
-    } else {
-        reference::Mode::Strict
-    }
-}
-
-fn which_of(which: u32) -> reference::Which {
-    match which {
-        1 => reference::Which::V1,
-        2 => reference::Which::V2,
-        _ => reference::Which::Either,
-    }
-}
-
 /// The record of a section that was read or refused.
 fn section(answer: Result<(u32, u64), reference::Refusal>) -> BafirolenSection {
     let (number, position) = refusal(&answer);
@@ -47,13 +34,6 @@ fn section(answer: Result<(u32, u64), reference::Refusal>) -> BafirolenSection {
         position,
         count: count.into(),
         tail,
-    }
-}
-
-fn refusal<T>(answer: &Result<T, reference::Refusal>) -> (u64, u64) {
-    match answer {
-        Ok(_) => (0, 0),
-        Err(refusal) => (refusal.number.into(), refusal.position),
     }
 }
 
@@ -174,34 +154,14 @@ fn frames() {
     compared(count, "records of frames");
 }
 
-fn numbers(theirs: &reference::Numbers) -> BafirolenNumbers {
-    BafirolenNumbers {
-        version: theirs.version,
-        message_type: theirs.message_type,
-        suite: theirs.suite,
-        content_type: theirs.content_type,
-        header_iv_length: theirs.iv_length,
-        frame_length: theirs.frame_length,
-        form: theirs.form,
-    }
-}
-
-/// The record of a body that was read or refused.
-fn body(answer: Result<reference::Body, reference::Refusal>) -> BafirolenBody {
-    let (number, position) = refusal(&answer);
-    let body = answer.ok();
-    let of = |field: fn(reference::Body) -> u64| body.map_or(0, field);
-    BafirolenBody {
-        number,
-        position,
-        numbers: body.map_or_else(BafirolenNumbers::default, |body| numbers(&body.numbers())),
-        message_id_start: of(|body| body.id.start),
-        message_id_len: of(|body| body.id.len),
-        pair_count: of(|body| body.pairs.into()),
-        key_count: of(|body| body.keys.into()),
-        suite_data_start: of(|body| body.suite_data.start),
-        suite_data_len: of(|body| body.suite_data.len),
-        tail: of(|body| body.tail),
+/// Numbers of which each chooses something.
+fn asked(random: &mut Random, max: Option<u64>) -> Asked {
+    let [which, mode, has_max] = [(); 3].map(|_| choice(random));
+    Asked {
+        which,
+        mode,
+        has_max,
+        max: max.unwrap_or(random.below(4)),
     }
 }
 
@@ -212,31 +172,16 @@ fn bodies() {
     for seed in seeds(100_000) {
         let case = body_case(seed);
         let (mut pairs, mut keys) = (case.pair_table.clone(), case.key_table.clone());
-        let [which, mode, has_max] = [(); 3].map(|_| choice(&mut random));
-        let max = case.max.unwrap_or(random.below(4));
-        // SAFETY: pointers and lengths are those of vectors, all apart.
-        let read = unsafe {
-            bafirolen_read_header_body(
-                case.message.as_ptr(),
-                case.message.len(),
-                case.start,
-                which,
-                mode,
-                has_max,
-                max,
-                pairs.as_mut_ptr(),
-                pairs.len(),
-                keys.as_mut_ptr(),
-                keys.len(),
-            )
-        };
+        let asked = asked(&mut random, case.max);
+        let (message, start) = (&case.message, case.start);
+        let read = crossing::read(message, start, asked, None, (&mut pairs, &mut keys));
         let (mut their_pairs, mut their_keys) = (case.pair_table, case.key_table);
         let wanted = reference::read_header_body(
-            &case.message,
-            case.start,
-            which_of(which),
-            mode_of(mode),
-            (has_max != 0).then_some(max),
+            message,
+            start,
+            which_of(asked.which),
+            mode_of(asked.mode),
+            (asked.has_max != 0).then_some(asked.max),
             &mut their_pairs,
             &mut their_keys,
         );
@@ -245,4 +190,22 @@ fn bodies() {
         count += 1;
     }
     compared(count, "records of bodies");
+}
+
+/// The policy is one more number that chooses.
+#[test]
+fn bodies_under_a_policy() {
+    let mut random = Random::new(104);
+    let (mut count, mut forbidden) = (0, 0);
+    for seed in seeds(100_000) {
+        let case = body_case(seed ^ 0xB0D1_E500);
+        let (asked, policy) = (asked(&mut random, case.max), choice(&mut random));
+        let message = (&case.message[..], case.start);
+        let tables = (&case.pair_table, &case.key_table);
+        let (read, _) = read_header_body(policy, message, asked, tables.0, tables.1);
+        forbidden += u64::from(read.number == 39);
+        count += 1;
+    }
+    assert!(forbidden > 0 && forbidden < count);
+    compared(count, "records of bodies under a policy");
 }

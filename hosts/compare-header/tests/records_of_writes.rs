@@ -2,30 +2,13 @@
 //! body is written from, of which none is cut.
 
 use bafirolen_sys::*;
-use compare_header::compared;
+use compare_header::records::written;
 use compare_header::scale::seeds;
+use compare_header::{compared, crossing};
 use generator::body_write_cases::body_write_case;
-use generator::fields::Fields;
 use generator::frame_write_cases::frame_write_case;
 use generator::only_cases::only_case;
-use generator::tables::Lent;
 use generator::write_cases::write_section_case;
-
-/// The record of what was written or refused.
-fn written(answer: Result<u64, reference::Refusal>) -> BafirolenWritten {
-    match answer {
-        Ok(length) => BafirolenWritten {
-            number: 0,
-            position: 0,
-            length,
-        },
-        Err(refusal) => BafirolenWritten {
-            number: refusal.number.into(),
-            position: refusal.position,
-            length: 0,
-        },
-    }
-}
 
 #[test]
 fn writes() {
@@ -35,73 +18,17 @@ fn writes() {
         let (text, pairs) = (&case.lent.text, &case.lent.pairs);
         let (mut ours, mut theirs) = (case.out.clone(), case.out);
         // SAFETY: pointers and lengths are those of vectors, all apart.
-        let written = unsafe {
+        let answer = unsafe {
             let (out, out_len) = (ours.as_mut_ptr(), ours.len());
             let (table, len) = (pairs.as_ptr(), pairs.len());
             bafirolen_write_aad_section(text.as_ptr(), text.len(), table, len, out, out_len)
         };
         let wanted = reference::write_aad_section(text, pairs, &mut theirs);
-        assert_eq!(written, self::written(wanted), "seed {seed}");
+        assert_eq!(answer, written(wanted), "seed {seed}");
         assert!(ours == theirs, "seed {seed}");
         count += 1;
     }
     compared(count, "records of writes");
-}
-
-fn numbers(fields: &Fields) -> BafirolenNumbers {
-    let [version, message_type, suite, content_type, header_iv_length, frame_length, form] =
-        fields.numbers();
-    BafirolenNumbers {
-        version,
-        message_type,
-        suite,
-        content_type,
-        header_iv_length,
-        frame_length,
-        form,
-    }
-}
-
-/// The record of a body's length.
-fn length(fields: &Fields, lent: &Lent) -> BafirolenWritten {
-    // SAFETY: pointers and lengths are those of vectors, which are only read.
-    unsafe {
-        bafirolen_header_body_len(
-            numbers(fields),
-            fields.id.as_ptr(),
-            fields.id.len(),
-            fields.suite_data.as_ptr(),
-            fields.suite_data.len(),
-            lent.text.as_ptr(),
-            lent.text.len(),
-            lent.pairs.as_ptr(),
-            lent.pairs.len(),
-            lent.keys.as_ptr(),
-            lent.keys.len(),
-        )
-    }
-}
-
-/// The record of a body written.
-fn body(fields: &Fields, lent: &Lent, out: &mut [u8]) -> BafirolenWritten {
-    // SAFETY: pointers and lengths are those of vectors, all apart.
-    unsafe {
-        bafirolen_write_header_body(
-            numbers(fields),
-            fields.id.as_ptr(),
-            fields.id.len(),
-            fields.suite_data.as_ptr(),
-            fields.suite_data.len(),
-            lent.text.as_ptr(),
-            lent.text.len(),
-            lent.pairs.as_ptr(),
-            lent.pairs.len(),
-            lent.keys.as_ptr(),
-            lent.keys.len(),
-            out.as_mut_ptr(),
-            out.len(),
-        )
-    }
 }
 
 /// A mark of a form may be any number, and any but 0 is old.
@@ -110,14 +37,15 @@ fn bodies() {
     let (mut count, mut marked) = (0, 0);
     for seed in seeds(100_000) {
         let case = body_write_case(seed);
-        let (fields, lent) = (&case.fields, &case.lent);
-        let (mut ours, mut theirs) = (case.out.clone(), case.out);
+        let (fields, lent) = (&case.fields, case.lent());
+        let (mut ours, mut theirs) = (case.out.clone(), case.out.clone());
         let (id, data) = (&fields.id, &fields.suite_data);
-        let (text, pairs, keys) = (&lent.text, &lent.pairs, &lent.keys);
+        let (text, pairs, keys) = (lent.text, lent.pairs, lent.keys);
         let list = fields.numbers().into();
         let wanted = reference::header_body_len(&list, id, data, text, pairs, keys);
-        assert_eq!(length(fields, lent), written(wanted), "seed {seed}");
-        let answer = body(fields, lent, &mut ours);
+        let length = crossing::length(lent, None);
+        assert_eq!(length, written(wanted), "seed {seed}");
+        let answer = crossing::write(lent, None, &mut ours);
         let wanted = reference::write_header_body(&list, id, data, text, pairs, keys, &mut theirs);
         assert_eq!(answer, written(wanted), "seed {seed}");
         assert!(ours == theirs, "seed {seed}");
@@ -173,7 +101,7 @@ fn only_authenticated() {
         let (mut ours, mut theirs) = (case.out.clone(), case.out.clone());
         // SAFETY: pointers and lengths are those of vectors, the output's apart
         // from the others, which are only read.
-        let written = unsafe {
+        let answer = unsafe {
             bafirolen_write_only_authenticated(
                 message.as_ptr(),
                 message.len(),
@@ -188,7 +116,7 @@ fn only_authenticated() {
         };
         let wanted =
             reference::write_only_authenticated(message, case.start, text, required, &mut theirs);
-        assert_eq!(written, self::written(wanted), "seed {seed}");
+        assert_eq!(answer, written(wanted), "seed {seed}");
         assert!(ours == theirs, "seed {seed}");
         count += 1;
     }

@@ -6,7 +6,8 @@ use compare_header::{compared, reads};
 use generator::image::OLD_MARKS;
 use generator::rows::{body_lengths, forms, frame_sizes, frame_write_sizes, frame_writes, frames};
 use generator::rows::{header_writes, headers, listings, many_frames, no_key, only_authenticated};
-use generator::rows::{records, section_writes, sections, sizes};
+use generator::rows::{policies, policies::NUMBERS, policy_faults, policy_writes};
+use generator::rows::{records, section_writes, sections, sizes, under};
 
 /// None of the rows that a table had is lost.
 fn held(rows: u64, wanted: u64, what: &str) {
@@ -86,6 +87,44 @@ fn written_without_a_key() {
     let rows = no_key::sections_written(&Both) + no_key::bodies_written(&Both);
     let wanted = 5 * 5 + 2 * 4 * (1 + 15 + 2 * 5) * 3;
     held(rows, wanted, "rows written without a key");
+}
+
+#[test]
+fn headers_under_a_policy() {
+    let rows = policies::whole(&Both)
+        + policies::every_cut(&Both)
+        + policies::every_suite(&Both)
+        + policies::at_the_greatest_start(&Both);
+    let wanted = NUMBERS * (2 * (4 + 2) + (58 + 85) * 4 + (9 + 2) * 2 * 4 + 5 * 4);
+    held(rows, wanted, "rows of headers under a policy");
+}
+
+#[test]
+fn faults_under_a_policy() {
+    let rows = policy_faults::fronts(&Both) + policy_faults::behind(&Both);
+    let wanted = NUMBERS * ((10 + 4) * 4 + (2 * 9 + 10 + 6) * 4);
+    held(rows, wanted, "rows of faults under a policy");
+}
+
+#[test]
+fn written_under_a_policy() {
+    let rows = policy_writes::images(&Both)
+        + policy_writes::faults(&Both)
+        + policy_writes::neighbours(&Both);
+    let first = 9 * (2 * 4 + (NUMBERS - 2) * 3);
+    let second = 2 * ((NUMBERS - 1) * 4 + 3);
+    let faults = NUMBERS * 2 * (15 + 3 + 5) * 3;
+    let wanted = 4 * (first + second) + faults + 4 * 3 * 3;
+    held(rows, wanted, "rows written under a policy");
+}
+
+/// The rows of other tests, where a policy changes nothing.
+#[test]
+fn as_without_a_policy() {
+    let rows = under::rows_read(&Both);
+    held(rows, under::ROWS_READ, "rows of readers under policies");
+    let rows = under::rows_written(&Both);
+    held(rows, under::ROWS_WRITTEN, "rows of writers under policies");
 }
 
 #[test]

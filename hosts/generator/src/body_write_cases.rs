@@ -4,6 +4,7 @@ use crate::body_cases::{byte_but, unknown_suite};
 use crate::fields::{fields, frame_length, suite_of, Fields};
 use crate::image::OLD_MARKS;
 use crate::random::Random;
+use crate::rows;
 use crate::tables::{lend, Lent};
 use crate::write_cases::{keys_to_write, output, pairs_to_write, spoil_table};
 use crate::{Expected, Pair};
@@ -16,6 +17,20 @@ pub struct BodyWriteCase {
     pub out: Vec<u8>,
     pub image: Vec<u8>,
     pub expected: Expected,
+}
+
+impl BodyWriteCase {
+    /// All that is lent beside the output.
+    pub fn lent(&self) -> rows::Lent<'_> {
+        rows::Lent {
+            numbers: self.fields.numbers(),
+            id: &self.fields.id,
+            suite_data: &self.fields.suite_data,
+            text: &self.lent.text,
+            pairs: &self.lent.pairs,
+            keys: &self.lent.keys,
+        }
+    }
 }
 
 /// Faults of the fields, in the order of tests; 100 and 101 stand for those

@@ -24,6 +24,8 @@ pub mod large;
 pub mod lines;
 pub mod many;
 pub mod only_cases;
+pub mod policies;
+pub mod policy_cases;
 pub mod random;
 pub mod rows;
 pub mod section_cases;

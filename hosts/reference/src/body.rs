@@ -3,6 +3,7 @@
 use crate::context::{self, Mode};
 use crate::keys;
 use crate::leaves::{read_bytes, read_u16, read_u32, read_u8, Place};
+use crate::policy::Policy;
 use crate::refusal::*;
 use crate::suites::{lookup, Suite};
 
@@ -21,6 +22,16 @@ pub enum Which {
     Either,
     V1,
     V2,
+}
+
+/// What is asked of a body reader: which one, how it takes the context, the
+/// most keys, and the policy it reads under.
+#[derive(Clone, Copy, Debug, PartialEq, Eq)]
+pub struct Request {
+    pub which: Which,
+    pub mode: Mode,
+    pub max: Option<u64>,
+    pub policy: Policy,
 }
 
 /// An accepted body. Type, IV length and suite data are 0 (start 0, length 0)
@@ -56,13 +67,7 @@ pub(crate) fn frame_fits(content_type: u32, frame_length: u32) -> bool {
     (content_type == FRAMED) == (frame_length > 0)
 }
 
-/// Reads a header body: 1; 2, 3; 4; version 1: 2, 5; 2, 6; 7; 2 at the ID; the
-/// context's but 22; the keys' but 23; 2, 17; version 1: 2, 18, 2, 19; 2 at
-/// the frame length; version 2: 2 at the suite data; 20; 22; 23.
-///
-/// The one-version readers take the mode as well. Tolerant, they are the
-/// readers of one version as the source has them; strict, they also refuse
-/// the old form with 21, as the strict reader of either version does.
+/// Reads a header body without a policy.
 pub fn read_header_body(
     message: &[u8],
     start: u64,
@@ -72,16 +77,40 @@ pub fn read_header_body(
     pairs: &mut [u32],
     keys: &mut [u32],
 ) -> Result<Body, Refusal> {
+    let request = Request {
+        which,
+        mode,
+        max,
+        policy: Policy::None,
+    };
+    read_header_body_under_policy(message, start, request, pairs, keys)
+}
+
+/// Reads a header body: 1; 2, 3; 4; version 1: 2, 5; 2, 6; 7; 39; 2 at the ID;
+/// the context's but 22; the keys' but 23; 2, 17; version 1: 2, 18, 2, 19; 2 at
+/// the frame length; version 2: 2 at the suite data; 20; 22; 23.
+///
+/// The one-version readers take the mode as well. Tolerant, they are the
+/// readers of one version as the source has them; strict, they also refuse
+/// the old form with 21, as the strict reader of either version does.
+pub fn read_header_body_under_policy(
+    message: &[u8],
+    start: u64,
+    request: Request,
+    pairs: &mut [u32],
+    keys: &mut [u32],
+) -> Result<Body, Refusal> {
     test_sizes(message, start)?;
-    let (version, at) = read_version(message, start, which)?;
+    let (version, at) = read_version(message, start, request.which)?;
     let (message_type, at) = match version {
         1 => read_type(message, at)?,
         _ => (0, at),
     };
     let (suite, at) = read_suite(message, at, version)?;
+    request.policy.test_read(suite)?;
     let id = read_bytes(message, at, id_length(version))?;
-    let pair_section = context::walk(message, id.end(), mode)?;
-    let key_section = keys::walk(message, pair_section.tail, max)?;
+    let pair_section = context::walk(message, id.end(), request.mode)?;
+    let key_section = keys::walk(message, pair_section.tail, request.max)?;
     let (content_type, at) = read_content_type(message, key_section.tail)?;
     let (iv_length, at) = match version {
         1 => read_reserved_and_iv_length(message, at)?,
@@ -95,7 +124,7 @@ pub fn read_header_body(
             (place, place.end())
         }
     };
-    if which == Which::Either && !frame_fits(content_type, frame_length) {
+    if request.which == Which::Either && !frame_fits(content_type, frame_length) {
         return Err(Refusal::of(FRAME_LENGTH));
     }
     // The tables come last, so that a short one never hides a bad header.
@@ -110,7 +139,7 @@ pub fn read_header_body(
     Ok(Body {
         version,
         message_type,
-        suite,
+        suite: suite.number,
         id,
         pairs: pair_section.count,
         keys: key_section.count,
@@ -142,13 +171,13 @@ fn read_type(message: &[u8], at: u64) -> Result<(u32, u64), Refusal> {
     Ok((TYPE_V1, tail))
 }
 
-fn read_suite(message: &[u8], at: u64, version: u32) -> Result<(u32, u64), Refusal> {
+fn read_suite(message: &[u8], at: u64, version: u32) -> Result<(Suite, u64), Refusal> {
     let (number, tail) = read_u16(message, at)?;
     let suite = lookup(u32::from(number)).ok_or(Refusal::of(UNKNOWN_SUITE))?;
     if suite.version != version {
         return Err(Refusal::of(SUITE_OF_OTHER_VERSION));
     }
-    Ok((suite.number, tail))
+    Ok((suite, tail))
 }
 
 fn read_content_type(message: &[u8], at: u64) -> Result<(u32, u64), Refusal> {

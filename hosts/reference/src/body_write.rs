@@ -4,6 +4,7 @@ use crate::body::{frame_fits, id_length, Body, FRAMED, NON_FRAMED, TODAY, TYPE_V
 use crate::context_write;
 use crate::keys;
 use crate::leaves::put;
+use crate::policy::Policy;
 use crate::refusal::*;
 use crate::suites::{lookup, Suite};
 
@@ -54,8 +55,19 @@ impl Body {
     }
 }
 
-/// Refusals 3, 5, 6 and 7: the numbers that stand before the ID.
-fn test_front(numbers: &Numbers) -> Result<(), Refusal> {
+/// What a body is written from. Pairs and keys have their places in one text.
+#[derive(Clone, Copy, Debug)]
+pub struct Draft<'a> {
+    pub numbers: Numbers,
+    pub id: &'a [u8],
+    pub suite_data: &'a [u8],
+    pub text: &'a [u8],
+    pub pairs: &'a [u32],
+    pub keys: &'a [u32],
+}
+
+/// Refusals 3, 5, 6, 7 and 39: the numbers that stand before the ID.
+fn test_front(policy: Policy, numbers: &Numbers) -> Result<(), Refusal> {
     let wanted_type = match numbers.version {
         1 => TYPE_V1,
         2 => 0,
@@ -68,7 +80,7 @@ fn test_front(numbers: &Numbers) -> Result<(), Refusal> {
     if suite.version != numbers.version {
         return Err(Refusal::of(SUITE_OF_OTHER_VERSION));
     }
-    Ok(())
+    policy.test_write(suite)
 }
 
 /// The pairs' refusals but 28, then 33; answers the context section's length.
@@ -105,9 +117,7 @@ fn test_back(numbers: &Numbers, suite_data: &[u8]) -> Result<(), Refusal> {
     Ok(())
 }
 
-/// Says, without an output, how many bytes a body takes when it is written.
-/// Pairs and keys have their places in one text. 3; 5; 6; 7; 24; the pairs' but
-/// 28; 33; the keys' but 28; 17; 19; 25; 20.
+/// Says how many bytes a body takes when it is written without a policy.
 pub fn header_body_len(
     numbers: &Numbers,
     id: &[u8],
@@ -116,13 +126,28 @@ pub fn header_body_len(
     pairs: &[u32],
     keys: &[u32],
 ) -> Result<u64, Refusal> {
-    test_front(numbers)?;
-    if id.len() as u64 != id_length(numbers.version) {
+    let draft = Draft {
+        numbers: *numbers,
+        id,
+        suite_data,
+        text,
+        pairs,
+        keys,
+    };
+    header_body_len_under_policy(Policy::None, &draft)
+}
+
+/// Says, without an output, how many bytes a body takes when it is written.
+/// 3; 5; 6; 7; 39; 24; the pairs' but 28; 33; the keys' but 28; 17; 19; 25; 20.
+pub fn header_body_len_under_policy(policy: Policy, draft: &Draft) -> Result<u64, Refusal> {
+    let numbers = &draft.numbers;
+    test_front(policy, numbers)?;
+    if draft.id.len() as u64 != id_length(numbers.version) {
         return Err(Refusal::of(ID_LENGTH));
     }
-    let pairs_length = test_context(numbers, text, pairs)?;
-    let keys_length = keys::test_keys(text, keys)?;
-    test_back(numbers, suite_data)?;
+    let pairs_length = test_context(numbers, draft.text, draft.pairs)?;
+    let keys_length = keys::test_keys(draft.text, draft.keys)?;
+    test_back(numbers, draft.suite_data)?;
     let front_length = match numbers.version {
         1 => 4 + 16,
         _ => 3 + 32,
@@ -134,8 +159,7 @@ pub fn header_body_len(
     Ok(front_length + pairs_length + keys_length + back_length)
 }
 
-/// Writes a body from the output's first byte; answers its length. What its
-/// length is refused by; 28.
+/// Writes a body without a policy.
 pub fn write_header_body(
     numbers: &Numbers,
     id: &[u8],
@@ -145,14 +169,33 @@ pub fn write_header_body(
     keys: &[u32],
     out: &mut [u8],
 ) -> Result<u64, Refusal> {
-    let length = header_body_len(numbers, id, suite_data, text, pairs, keys)?;
+    let draft = Draft {
+        numbers: *numbers,
+        id,
+        suite_data,
+        text,
+        pairs,
+        keys,
+    };
+    write_header_body_under_policy(Policy::None, &draft, out)
+}
+
+/// Writes a body from the output's first byte; answers its length. What its
+/// length is refused by; 28.
+pub fn write_header_body_under_policy(
+    policy: Policy,
+    draft: &Draft,
+    out: &mut [u8],
+) -> Result<u64, Refusal> {
+    let length = header_body_len_under_policy(policy, draft)?;
     if length > out.len() as u64 {
         return Err(Refusal::of(OUTPUT));
     }
-    let mut at = put_front(numbers, id, out);
-    at += put_context(numbers, text, pairs, &mut out[at..]);
-    at += keys::put_section(text, keys, &mut out[at..]);
-    put_back(numbers, suite_data, &mut out[at..]);
+    let numbers = &draft.numbers;
+    let mut at = put_front(numbers, draft.id, out);
+    at += put_context(numbers, draft.text, draft.pairs, &mut out[at..]);
+    at += keys::put_section(draft.text, draft.keys, &mut out[at..]);
+    put_back(numbers, draft.suite_data, &mut out[at..]);
     Ok(length)
 }
 

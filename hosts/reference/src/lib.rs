@@ -9,7 +9,8 @@
 //! Numbers that are fields (version, suite and so on) are `u32` throughout,
 //! so that a caller can hand in one wider than its stored form; it is refused
 //! as any other wrong number is. The mark of a form alone is never wrong: 0 is
-//! today's, any other number old.
+//! today's, any other number old. Nor is the number of a policy, which is no
+//! field: bodies are read, measured and written under one, or without.
 #![forbid(unsafe_code)]
 
 pub mod auth;
@@ -23,6 +24,7 @@ pub mod keys;
 pub mod leaves;
 pub mod listing;
 pub mod only_authenticated;
+pub mod policy;
 pub mod refusal;
 pub mod seen;
 pub mod suites;
@@ -30,8 +32,9 @@ pub mod tables;
 pub mod utf8;
 
 pub use auth::{read_header_auth_tag, write_header_auth_tag, AuthRecord};
-pub use body::{read_header_body, Body, Which};
+pub use body::{read_header_body, read_header_body_under_policy, Body, Request, Which};
 pub use body_write::{header_body_len, write_header_body, Numbers};
+pub use body_write::{header_body_len_under_policy, write_header_body_under_policy, Draft};
 pub use context::{find, find_part, read_aad_section, Mode, PairsRead};
 pub use context_write::write_aad_section;
 pub use frames::{read_frames, FramesRead};
@@ -43,6 +46,7 @@ pub use leaves::{
 };
 pub use listing::{host_answer, listing, write_listing};
 pub use only_authenticated::write_only_authenticated;
+pub use policy::Policy;
 pub use refusal::Refusal;
 pub use suites::{lookup, Suite, SUITES};
 pub use utf8::is_utf8;

@@ -14,6 +14,11 @@ impl Suite {
     /// Only version 2 stores a commit key.
     pub const COMMIT_LEN: u64 = 32;
 
+    /// Whether it commits to its key.
+    pub fn commits(self) -> bool {
+        self.version == 2
+    }
+
     /// The suite the two stored bytes name.
     pub fn from_stored(bytes: [u8; 2]) -> Option<Suite> {
         lookup(u32::from(u16::from_be_bytes(bytes)))

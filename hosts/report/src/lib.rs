@@ -6,7 +6,7 @@ mod coverage;
 mod listed;
 
 pub use coverage::Coverage;
-pub use listed::{assert_said, listed, BODY_READERS, LISTED};
+pub use listed::{assert_said, listed, BODY_READERS, BODY_READERS_UNDER_POLICY, LISTED};
 use std::io::Write;
 
 /// A line to the stream itself, since cargo swallows what a passing test

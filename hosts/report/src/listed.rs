@@ -6,7 +6,9 @@ use std::collections::BTreeSet;
 /// for each operation, in its order of tests; each stands where it comes first,
 /// such as 2 and 32, which are tested of each part in turn, and 34 in reading,
 /// 19 and 30 in writing, which are tested of each frame.
-pub const LISTED: [(&str, &[u32]); 21] = [
+///
+/// Where version 2 alone is asked for, no policy forbids what is read.
+pub const LISTED: [(&str, &[u32]); 29] = [
     (
         "read section tolerant",
         &[1, 2, 32, 8, 9, 10, 11, 12, 14, 22],
@@ -57,12 +59,50 @@ pub const LISTED: [(&str, &[u32]); 21] = [
             1, 2, 3, 4, 6, 7, 32, 8, 21, 9, 10, 11, 12, 14, 38, 15, 16, 17, 22, 23,
         ],
     ),
+    (
+        "read body under policy tolerant",
+        &[
+            1, 2, 3, 5, 6, 7, 39, 32, 8, 9, 10, 11, 12, 14, 38, 15, 16, 17, 18, 19, 20, 22, 23,
+        ],
+    ),
+    (
+        "read body under policy strict",
+        &[
+            1, 2, 3, 5, 6, 7, 39, 32, 8, 21, 9, 10, 11, 12, 14, 38, 15, 16, 17, 18, 19, 20, 22, 23,
+        ],
+    ),
+    (
+        "read body under policy v1 tolerant",
+        &[
+            1, 2, 3, 4, 5, 6, 7, 39, 32, 8, 9, 10, 11, 12, 14, 38, 15, 16, 17, 18, 19, 22, 23,
+        ],
+    ),
+    (
+        "read body under policy v1 strict",
+        &[
+            1, 2, 3, 4, 5, 6, 7, 39, 32, 8, 21, 9, 10, 11, 12, 14, 38, 15, 16, 17, 18, 19, 22, 23,
+        ],
+    ),
+    (
+        "read body under policy v2 tolerant",
+        &[
+            1, 2, 3, 4, 6, 7, 32, 8, 9, 10, 11, 12, 14, 38, 15, 16, 17, 22, 23,
+        ],
+    ),
+    (
+        "read body under policy v2 strict",
+        &[
+            1, 2, 3, 4, 6, 7, 32, 8, 21, 9, 10, 11, 12, 14, 38, 15, 16, 17, 22, 23,
+        ],
+    ),
     ("read auth", &[1, 6, 2]),
     ("read frames", &[1, 20, 2, 34, 35, 23]),
     ("write section", &[26, 27, 10, 11, 12, 13, 28]),
     ("write keys", &[26, 27, 38, 16, 28]),
     ("write body", WRITE_BODY),
     ("body length", but_28(WRITE_BODY)),
+    ("write body under policy", WRITE_BODY_UNDER_POLICY),
+    ("body length under policy", but_28(WRITE_BODY_UNDER_POLICY)),
     ("write auth", &[6, 19, 30, 28]),
     ("write frames", WRITE_FRAMES),
     ("frames length", but_28(WRITE_FRAMES)),
@@ -71,6 +111,10 @@ pub const LISTED: [(&str, &[u32]); 21] = [
 
 const WRITE_BODY: &[u32] = &[
     3, 5, 6, 7, 24, 26, 27, 10, 11, 12, 13, 33, 38, 16, 17, 19, 25, 20, 28,
+];
+
+const WRITE_BODY_UNDER_POLICY: &[u32] = &[
+    3, 5, 6, 7, 39, 24, 26, 27, 10, 11, 12, 13, 33, 38, 16, 17, 19, 25, 20, 28,
 ];
 
 const WRITE_FRAMES: &[u32] = &[20, 26, 36, 27, 19, 30, 37, 35, 28];
@@ -91,6 +135,16 @@ pub const BODY_READERS: [&str; 6] = [
     "read body v1 strict",
     "read body v2 tolerant",
     "read body v2 strict",
+];
+
+/// Those that read one under a policy.
+pub const BODY_READERS_UNDER_POLICY: [&str; 6] = [
+    "read body under policy tolerant",
+    "read body under policy strict",
+    "read body under policy v1 tolerant",
+    "read body under policy v1 strict",
+    "read body under policy v2 tolerant",
+    "read body under policy v2 strict",
 ];
 
 /// The list of one operation.

@@ -1,9 +1,12 @@
-//! The C header says of each function what the comparisons hold its
-//! operations to. (That its words are README's, a test in C says.)
+//! The C headers say of each function what the comparisons hold its
+//! operations to. (That their words are README's, a test in C says.)
 
-use report::{assert_said, listed, BODY_READERS};
+use report::{assert_said, listed, BODY_READERS, BODY_READERS_UNDER_POLICY};
 
-const HEADER: &str = include_str!("../../../include/bafirolen.h");
+const HEADERS: [&str; 2] = [
+    include_str!("../../../include/bafirolen.h"),
+    include_str!("../../../include/bafirolen_policy.h"),
+];
 const REFUSALS: &str = include_str!("../../../include/bafirolen_refusals.h");
 
 #[test]
@@ -18,11 +21,11 @@ fn the_numbers_of_refusals() {
                 .expect("a number")
         })
         .collect();
-    assert!(numbers.into_iter().eq(0..=38));
+    assert!(numbers.into_iter().eq(0..=39));
 }
 
 /// Each function that refuses, and the operations that its list is of.
-const FUNCTIONS: [(&str, &[&str]); 17] = [
+const FUNCTIONS: [(&str, &[&str]); 20] = [
     ("bafirolen_header_number", &["read body tolerant"]),
     ("bafirolen_read_header_body", &BODY_READERS),
     (
@@ -49,6 +52,18 @@ const FUNCTIONS: [(&str, &[&str]); 17] = [
         &["write only authenticated"],
     ),
     ("bafirolen_write_listing", &["write listing"]),
+    (
+        "bafirolen_read_header_body_under_policy",
+        &BODY_READERS_UNDER_POLICY,
+    ),
+    (
+        "bafirolen_write_header_body_under_policy",
+        &["write body under policy"],
+    ),
+    (
+        "bafirolen_header_body_len_under_policy",
+        &["body length under policy"],
+    ),
 ];
 
 /// What the function answers of an operation: a copy may find no room, and the
@@ -63,11 +78,11 @@ fn list(function: &str, operation: &str) -> Vec<u32> {
     list
 }
 
-/// In the header's order: the numbers behind "Refuses:", and the first
-/// function that is declared below them.
-fn said() -> Vec<(String, Vec<u32>)> {
+/// In a header's order: the numbers behind "Refuses:", and the first function
+/// that is declared below them.
+fn said(header: &str) -> Vec<(String, Vec<u32>)> {
     let mut said = Vec::new();
-    let mut rest = HEADER;
+    let mut rest = header;
     while let Some((_, behind)) = rest.split_once("Refuses: ") {
         let (numbers, below) = behind.split_once(".\n").expect("a full stop");
         let (_, declared) = below.split_once(" */\n").expect("the comment's end");
@@ -82,7 +97,7 @@ fn said() -> Vec<(String, Vec<u32>)> {
 
 #[test]
 fn what_each_function_refuses() {
-    let said = said();
+    let said: Vec<_> = HEADERS.into_iter().flat_map(said).collect();
     let names: Vec<&str> = said.iter().map(|(name, _)| name.as_str()).collect();
     assert_eq!(names, FUNCTIONS.map(|(name, _)| name));
     for ((name, numbers), (_, operations)) in said.iter().zip(FUNCTIONS) {

@@ -97,7 +97,7 @@ fn fields(id: Vec<u8>, pairs: Vec<Pair>, keys: Vec<Key>) -> Fields {
     }
 }
 
-fn messages(bodies: &[Fields]) -> Vec<Vec<u8>> {
+pub(super) fn messages(bodies: &[Fields]) -> Vec<Vec<u8>> {
     let image = |body: &Fields| body.image().bytes;
     bodies.iter().map(image).collect()
 }

@@ -8,6 +8,7 @@ mod keys;
 mod leaves;
 mod lengths;
 mod lists;
+mod policies;
 mod required;
 
 use crate::table::Table;
@@ -40,6 +41,11 @@ pub const GROUPS: &[Group] = &[
         "lengths",
         "the length of header bodies, alone and before they are written",
         lengths::rows,
+    ),
+    (
+        "policies",
+        "header bodies read and written under a policy",
+        policies::rows,
     ),
     (
         "frames",

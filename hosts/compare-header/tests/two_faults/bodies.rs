@@ -8,7 +8,9 @@ use compare_header::{reads, request, Coverage, BODY_READERS};
 use generator::faults::{Area, ReadDraft};
 
 /// A reader and the version of what it is given.
-const READERS: [(&str, Which, Mode, u32); 8] = [
+pub type Reader = (&'static str, Which, Mode, u32);
+
+pub const READERS: [Reader; 8] = [
     ("read body tolerant", Which::Either, Mode::Tolerant, 1),
     ("read body tolerant", Which::Either, Mode::Tolerant, 2),
     ("read body strict", Which::Either, Mode::Strict, 1),
@@ -75,7 +77,7 @@ fn back(which: Which, version: u32) -> Faults {
     list
 }
 
-fn body((operation, which, mode, version): (&'static str, Which, Mode, u32)) -> Listed<ReadDraft> {
+pub fn body((operation, which, mode, version): Reader) -> Listed<ReadDraft> {
     let mut list = front(which, version);
     list.extend(sections::context(mode));
     list.extend(sections::keys());

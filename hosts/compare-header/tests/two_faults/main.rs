@@ -14,6 +14,7 @@ mod bodies;
 mod every_pair;
 mod frame_writes;
 mod frames;
+mod policies;
 mod reads;
 mod sections;
 mod writes;
@@ -24,6 +25,7 @@ use every_pair::Names;
 fn operations() -> Vec<Names> {
     let mut all = reads::lists();
     all.extend(bodies::lists());
+    all.extend(policies::lists());
     all.push(frames::frames().names());
     all.extend(writes::lists());
     all.extend(frame_writes::lists());

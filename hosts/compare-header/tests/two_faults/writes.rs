@@ -117,7 +117,7 @@ fn back() -> Faults {
 }
 
 /// The length of a body of a version, before it is written.
-fn length(version: u32) -> Listed<WriteDraft> {
+pub fn length(version: u32) -> Listed<WriteDraft> {
     let mut list = front(version);
     list.extend(pairs());
     list.push(write("33 form", |d| d.mark_old()));
@@ -132,7 +132,7 @@ fn length(version: u32) -> Listed<WriteDraft> {
 }
 
 /// The same in the old form, which has no pair to be refused.
-fn old_length(version: u32) -> Listed<WriteDraft> {
+pub fn old_length(version: u32) -> Listed<WriteDraft> {
     let mut list = front(version);
     list.extend(keys());
     list.extend(back());
@@ -145,7 +145,7 @@ fn old_length(version: u32) -> Listed<WriteDraft> {
 }
 
 /// Write a body of a version: what its length is refused by, then the output.
-fn body(version: u32) -> Listed<WriteDraft> {
+pub fn body(version: u32) -> Listed<WriteDraft> {
     let mut listed = length(version);
     listed.operation = "write body";
     listed.list.push(output());
@@ -153,7 +153,7 @@ fn body(version: u32) -> Listed<WriteDraft> {
 }
 
 /// Write a body of a version in the old form.
-fn old_body(version: u32) -> Listed<WriteDraft> {
+pub fn old_body(version: u32) -> Listed<WriteDraft> {
     let mut listed = old_length(version);
     listed.operation = "write old body";
     listed.list.push(output());

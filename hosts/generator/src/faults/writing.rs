@@ -12,6 +12,7 @@ use crate::{Key, Pair};
 pub struct WriteDraft {
     /// Version, type, suite, content type, IV length, frame length and form.
     pub numbers: [u32; 7],
+    pub policy: u32,
     pub id: Vec<u8>,
     pub suite_data: Vec<u8>,
     pub text: Vec<u8>,
@@ -54,6 +55,7 @@ impl WriteDraft {
         text.extend(vec![b'z'; 65_600]);
         WriteDraft {
             numbers: fields.numbers(),
+            policy: 0,
             id: fields.id,
             suite_data: fields.suite_data,
             text,

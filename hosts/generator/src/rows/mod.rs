@@ -18,11 +18,17 @@ pub mod listings;
 pub mod many_frames;
 pub mod no_key;
 pub mod only_authenticated;
+pub mod policies;
+pub mod policy_faults;
+pub mod policy_writes;
 pub mod records;
 pub mod section_ends;
 pub mod section_writes;
 pub mod sections;
 pub mod sizes;
+pub mod under;
+
+use under::Under;
 
 /// A refusal: number and position.
 pub type Refused = (u32, u64);
@@ -96,6 +102,15 @@ pub trait Codec {
         pairs: &mut [u32],
         keys: &mut [u32],
     ) -> Result<Body, Refused>;
+    /// The same under a policy, by its number.
+    fn read_body_under(
+        &self,
+        policy: u32,
+        message: &[u8],
+        asked: Asked,
+        pairs: &mut [u32],
+        keys: &mut [u32],
+    ) -> Result<Body, Refused>;
     fn read_record(&self, message: &[u8], start: u64, suite: u32) -> Record;
     fn read_frames(&self, message: &[u8], start: u64, length: u32, table: &mut [u32]) -> Section;
     fn find(&self, message: &[u8], start: u64, key: &[u8]) -> Result<Place, Refused>;
@@ -106,6 +121,8 @@ pub trait Codec {
     /// What the body takes, by what a writer is lent beside the output.
     fn body_len(&self, lent: Lent) -> Written;
     fn write_body(&self, lent: Lent, out: &mut [u8]) -> Written;
+    fn body_len_under(&self, policy: u32, lent: Lent) -> Written;
+    fn write_body_under(&self, policy: u32, lent: Lent, out: &mut [u8]) -> Written;
     /// What frames of a length take when they are written.
     fn frames_len(&self, length: u32, text: &[u8], table: &[u32]) -> Written;
     fn write_frames(&self, length: u32, text: &[u8], table: &[u32], out: &mut [u8]) -> Written;

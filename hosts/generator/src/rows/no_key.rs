@@ -227,10 +227,10 @@ pub fn sections_written(codec: &impl Codec) -> u64 {
 }
 
 /// A fault, by its number, of a body whose text goes on with letters.
-type Fault = (u32, fn(&mut Lent));
+pub(super) type Fault = (u32, fn(&mut Lent));
 
 /// Those that are tested before 38, the keys' last.
-const BEFORE: [Fault; 15] = [
+pub(super) const BEFORE: [Fault; 15] = [
     (3, |lent| lent.numbers[0] = 3),
     (5, |lent| lent.numbers[1] ^= 1),
     (6, |lent| lent.numbers[2] ^= 1),
@@ -249,7 +249,7 @@ const BEFORE: [Fault; 15] = [
 ];
 
 /// Those that are tested after it.
-const AFTER: [Fault; 5] = [
+pub(super) const AFTER: [Fault; 5] = [
     (17, |lent| lent.numbers[3] = 3),
     (19, |lent| lent.numbers[4] ^= 1),
     (25, |lent| lent.suite_data = &[8; 31]),

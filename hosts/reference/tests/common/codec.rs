@@ -29,6 +29,30 @@ fn body(body: reference::Body) -> Body {
     }
 }
 
+fn request(asked: Asked, policy: u32) -> Request {
+    Request {
+        which: match asked.version {
+            0 => Which::Either,
+            1 => Which::V1,
+            _ => Which::V2,
+        },
+        mode: mode(asked.strict),
+        max: asked.max,
+        policy: Policy::from(policy),
+    }
+}
+
+fn draft(lent: Lent) -> Draft {
+    Draft {
+        numbers: Numbers::from(lent.numbers),
+        id: lent.id,
+        suite_data: lent.suite_data,
+        text: lent.text,
+        pairs: lent.pairs,
+        keys: lent.keys,
+    }
+}
+
 impl Codec for Reference {
     fn read_section(&self, message: &[u8], start: u64, strict: bool, table: &mut [u32]) -> Section {
         read_aad_section(message, start, mode(strict), table)
@@ -55,13 +79,22 @@ impl Codec for Reference {
         pairs: &mut [u32],
         keys: &mut [u32],
     ) -> Result<Body, Refused> {
-        let which = match asked.version {
-            0 => Which::Either,
-            1 => Which::V1,
-            _ => Which::V2,
-        };
-        let mode = mode(asked.strict);
+        let Request { which, mode, .. } = request(asked, 0);
         read_header_body(message, asked.start, which, mode, asked.max, pairs, keys)
+            .map(body)
+            .map_err(refusal)
+    }
+
+    fn read_body_under(
+        &self,
+        policy: u32,
+        message: &[u8],
+        asked: Asked,
+        pairs: &mut [u32],
+        keys: &mut [u32],
+    ) -> Result<Body, Refused> {
+        let request = request(asked, policy);
+        read_header_body_under_policy(message, asked.start, request, pairs, keys)
             .map(body)
             .map_err(refusal)
     }
@@ -121,6 +154,14 @@ impl Codec for Reference {
             out,
         )
         .map_err(refusal)
+    }
+
+    fn body_len_under(&self, policy: u32, lent: Lent) -> Written {
+        header_body_len_under_policy(policy.into(), &draft(lent)).map_err(refusal)
+    }
+
+    fn write_body_under(&self, policy: u32, lent: Lent, out: &mut [u8]) -> Written {
+        write_header_body_under_policy(policy.into(), &draft(lent), out).map_err(refusal)
     }
 
     fn frames_len(&self, length: u32, text: &[u8], table: &[u32]) -> Written {

@@ -161,8 +161,27 @@ pub fn suite_version(suite: u128) -> Option<u128> {
     }
 }
 
+/// The versions that a policy reads, and those that it writes, by its number;
+/// a greater one is as good as the last.
+const READ: [&[u128]; 4] = [&[1, 2], &[1, 2], &[1, 2], &[2]];
+const WRITTEN: [&[u128]; 4] = [&[1, 2], &[1], &[2], &[2]];
+
+pub fn may_read(policy: u32, version: u128) -> bool {
+    READ[policy.min(3) as usize].contains(&version)
+}
+
+pub fn may_write(policy: u32, version: u128) -> bool {
+    WRITTEN[policy.min(3) as usize].contains(&version)
+}
+
 /// `only` is 0 for the reader of either version.
-pub fn body(buffer: &mut Buffer, only: u128, strict: bool, max: Option<u64>) -> Result<Body, No> {
+pub fn body(
+    buffer: &mut Buffer,
+    only: u128,
+    strict: bool,
+    max: Option<u64>,
+    policy: u32,
+) -> Result<Body, No> {
     let version = buffer.number(1)?;
     need(version == 1 || version == 2, 3)?;
     need(only == 0 || only == version, 4)?;
@@ -174,6 +193,7 @@ pub fn body(buffer: &mut Buffer, only: u128, strict: bool, max: Option<u64>) -> 
     let suite = buffer.number(2)?;
     need(suite_version(suite).is_some(), 6)?;
     need(suite_version(suite) == Some(version), 7)?;
+    need(may_read(policy, version), 39)?;
     let id = buffer.read(if version == 1 { 16 } else { 32 })?;
     let from = buffer.start;
     let pairs = section(buffer, strict)?;

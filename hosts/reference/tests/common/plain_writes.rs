@@ -1,6 +1,6 @@
 //! The slow second opinion on writing: images of owned bytes, joined.
 
-use super::plain::{need, section, suite_version, Buffer, No};
+use super::plain::{may_write, need, section, suite_version, Buffer, No};
 use std::ops::Range;
 use std::str::from_utf8;
 
@@ -132,6 +132,7 @@ pub fn write_frames(length: u32, text: &[u8], table: &[u32]) -> Result<Vec<u8>, 
 /// `numbers` as in [`super::plain::Body`].
 pub fn write_body(
     numbers: [u32; 7],
+    policy: u32,
     id: &[u8],
     suite_data: &[u8],
     text: &[u8],
@@ -145,6 +146,7 @@ pub fn write_body(
     let suites_version = suite_version(u128::from(suite));
     need(suites_version.is_some(), 6)?;
     need(suites_version == Some(u128::from(version)), 7)?;
+    need(may_write(policy, u128::from(version)), 39)?;
     need(id.len() == if first { 16 } else { 32 }, 24)?;
     let mut section = write_section(text, pairs)?;
     if form != 0 {

@@ -2,6 +2,7 @@
 //! what their damage decides and against the slow second opinion. A table of
 //! operations and refusals shows that each refusal has come about.
 
+mod bodies;
 #[path = "../common/mod.rs"]
 mod common;
 mod frames;
@@ -15,12 +16,14 @@ fn every_operation_on_generated_requests() {
     let mut coverage = Coverage::default();
     let compared = reads::sections(&mut coverage)
         + reads::keys(&mut coverage)
-        + reads::bodies(&mut coverage)
+        + bodies::without_a_policy(&mut coverage)
+        + bodies::under_a_policy(&mut coverage)
         + reads::auth(&mut coverage)
         + frames::frames(&mut coverage)
         + writes::sections(&mut coverage)
         + writes::keys(&mut coverage)
         + writes::bodies(&mut coverage)
+        + writes::bodies_under_a_policy(&mut coverage)
         + writes::auth(&mut coverage)
         + writes::frames(&mut coverage)
         + writes::only_authenticated(&mut coverage)

@@ -3,7 +3,6 @@
 use crate::common::plain::{self, Buffer, No, Part};
 use crate::common::{key_parts, mode, pair_parts, parts, refusal};
 use generator::auth_cases::auth_case;
-use generator::body_cases::{body_case, BodyCase, Reader};
 use generator::key_cases::key_case;
 use generator::section_cases::{section_case, SectionCase};
 use generator::Expected;
@@ -20,7 +19,7 @@ pub fn number<T>(answer: &Result<T, Refusal>) -> u32 {
     answer.as_ref().err().map_or(0, |refusal| refusal.number)
 }
 
-fn no<T>(answer: &Result<T, Refusal>) -> Option<No> {
+pub fn no<T>(answer: &Result<T, Refusal>) -> Option<No> {
     answer
         .as_ref()
         .err()
@@ -29,7 +28,7 @@ fn no<T>(answer: &Result<T, Refusal>) -> Option<No> {
 
 /// The table holds these parts' places, and keeps its numbers beyond them; or
 /// all of them, if the answer was a refusal.
-fn table_is(seed: u64, before: &[u32], after: &[u32], filled: Option<&[Part]>) {
+pub fn table_is(seed: u64, before: &[u32], after: &[u32], filled: Option<&[Part]>) {
     let mut wanted = before.to_vec();
     for (i, (start, bytes)) in filled.unwrap_or(&[]).iter().enumerate() {
         wanted[2 * i] = *start as u32;
@@ -162,107 +161,6 @@ pub fn keys(coverage: &mut Coverage) -> u64 {
         }
     }
     SEEDS
-}
-
-pub fn bodies(coverage: &mut Coverage) -> u64 {
-    const SEEDS: u64 = 400_000;
-    for seed in 0..SEEDS {
-        body(seed, &body_case(seed), coverage);
-    }
-    SEEDS
-}
-
-fn body(seed: u64, case: &BodyCase, coverage: &mut Coverage) {
-    let (which, only, operation) = match (case.reader, case.strict) {
-        (Reader::Either, false) => (Which::Either, 0, "read body tolerant"),
-        (Reader::Either, true) => (Which::Either, 0, "read body strict"),
-        (Reader::V1, false) => (Which::V1, 1, "read body v1 tolerant"),
-        (Reader::V1, true) => (Which::V1, 1, "read body v1 strict"),
-        (Reader::V2, false) => (Which::V2, 2, "read body v2 tolerant"),
-        (Reader::V2, true) => (Which::V2, 2, "read body v2 strict"),
-    };
-    let (mut pairs, mut keys) = (case.pair_table.clone(), case.key_table.clone());
-    let mode = mode(case.strict);
-    let answer = read_header_body(
-        &case.message,
-        case.start,
-        which,
-        mode,
-        case.max,
-        &mut pairs,
-        &mut keys,
-    );
-    coverage.count(operation, number(&answer));
-    as_expected(seed, &answer, case.expected);
-
-    let plain = Buffer::new(&case.message, case.start).and_then(|mut buffer| {
-        let body = plain::body(&mut buffer, only, case.strict, case.max)?;
-        if case.pair_table.len() < 2 * body.pairs.len() {
-            return Err((22, 0));
-        }
-        if case.key_table.len() < 2 * body.keys.len() {
-            return Err((23, 0));
-        }
-        Ok(body)
-    });
-    assert_eq!(no(&answer), plain.as_ref().err().copied(), "seed {seed}");
-    let plain = plain.ok();
-    table_is(
-        seed,
-        &case.pair_table,
-        &pairs,
-        plain.as_ref().map(|body| body.pairs.as_slice()),
-    );
-    table_is(
-        seed,
-        &case.key_table,
-        &keys,
-        plain.as_ref().map(|body| body.keys.as_slice()),
-    );
-    let (Ok(read), Some(plain)) = (answer, plain) else {
-        return;
-    };
-
-    let n = read.numbers();
-    let numbers = [
-        n.version,
-        n.message_type,
-        n.suite,
-        n.content_type,
-        n.iv_length,
-        n.frame_length,
-        n.form,
-    ];
-    assert_eq!(numbers, plain.numbers, "seed {seed}");
-    assert_eq!(
-        (read.id.start, read.id.within(&case.message)),
-        (plain.id.0, Some(&plain.id.1[..]))
-    );
-    let data = (read.suite_data.start, read.suite_data.within(&case.message));
-    assert_eq!(
-        data,
-        (plain.suite_data.0, Some(&plain.suite_data.1[..])),
-        "seed {seed}"
-    );
-    assert_eq!(
-        (read.pairs as usize, read.keys as usize),
-        (plain.pairs.len() / 2, plain.keys.len() / 3)
-    );
-    assert_eq!(read.tail, plain.tail, "seed {seed}");
-    if case.expected == Expected::Accepted {
-        let fields = &case.fields;
-        assert_eq!(numbers, fields.numbers(), "seed {seed}");
-        assert_eq!(read.tail, case.end, "seed {seed}");
-        assert_eq!(read.id.within(&case.message), Some(&fields.id[..]));
-        assert_eq!(
-            read.suite_data.within(&case.message),
-            Some(&fields.suite_data[..])
-        );
-        let got = parts(&case.message, &pairs[..4 * read.pairs as usize]);
-        assert_eq!(got, pair_parts(&fields.pairs), "seed {seed}");
-        let got = parts(&case.message, &keys[..6 * read.keys as usize]);
-        assert_eq!(got, key_parts(&fields.keys), "seed {seed}");
-    }
 }
 
 pub fn auth(coverage: &mut Coverage) -> u64 {

@@ -6,9 +6,10 @@ use crate::common::refusal;
 use crate::reads::{as_expected, number};
 use generator::auth_cases::auth_write_case;
 use generator::body_cases::body_case;
-use generator::body_write_cases::body_write_case;
+use generator::body_write_cases::{body_write_case, BodyWriteCase};
 use generator::frame_write_cases::frame_write_case;
 use generator::only_cases::only_case;
+use generator::policy_cases::{write_case, UnderPolicy};
 use generator::write_cases::{write_keys_case, write_section_case, WriteCase};
 use generator::Expected;
 use reference::*;
@@ -89,33 +90,73 @@ pub fn bodies(coverage: &mut Coverage) -> u64 {
     const SEEDS: u64 = 300_000;
     for seed in 0..SEEDS {
         let case = body_write_case(seed);
-        let (fields, lent) = (&case.fields, &case.lent);
-        let list = fields.numbers();
-        let numbers = Numbers::from(list);
-        let (id, data) = (&fields.id, &fields.suite_data);
-        let (text, pairs, keys) = (&lent.text, &lent.pairs, &lent.keys);
-        let plain = plain::write_body(list, id, data, text, pairs, keys);
-
-        let length = header_body_len(&numbers, id, data, text, pairs, keys);
-        coverage.count("body length", number(&length));
-        let taken = plain.as_ref().map(|image| image.len() as u64);
-        assert_eq!(
-            length.map_err(refusal),
-            taken.map_err(|no| *no),
-            "seed {seed}"
-        );
-
-        let mut out = case.out.clone();
-        let answer = write_header_body(&numbers, id, data, text, pairs, keys, &mut out);
-        coverage.count("write body", number(&answer));
-        as_expected(seed, &answer, case.expected);
-        assert_ne!(case.expected, Expected::Open);
-        if answer.is_ok() {
-            assert_eq!(out[..case.image.len()], case.image, "seed {seed}");
-        }
-        output_is(seed, answer, (&case.out, &out), plain);
+        let without = (None, case.expected);
+        let operations = ["body length", "write body"];
+        body(seed, &case, without, operations, coverage);
     }
     2 * SEEDS
+}
+
+/// The same under a policy, which forbids some of them.
+pub fn bodies_under_a_policy(coverage: &mut Coverage) -> u64 {
+    const SEEDS: u64 = 150_000;
+    for seed in 0..SEEDS {
+        let UnderPolicy {
+            case,
+            policy,
+            expected,
+        } = write_case(!seed);
+        let under = (Some(policy), expected);
+        let operations = ["body length under policy", "write body under policy"];
+        body(seed, &case, under, operations, coverage);
+    }
+    2 * SEEDS
+}
+
+fn body(
+    seed: u64,
+    case: &BodyWriteCase,
+    (policy, expected): (Option<u32>, Expected),
+    operations: [&'static str; 2],
+    coverage: &mut Coverage,
+) {
+    let (fields, lent) = (&case.fields, &case.lent);
+    let list = fields.numbers();
+    let numbers = Numbers::from(list);
+    let (id, data) = (&fields.id, &fields.suite_data);
+    let (text, pairs, keys) = (&lent.text, &lent.pairs, &lent.keys);
+    let none = policy.unwrap_or(0);
+    let plain = plain::write_body(list, none, id, data, text, pairs, keys);
+    let draft = Draft {
+        numbers,
+        id,
+        suite_data: data,
+        text,
+        pairs,
+        keys,
+    };
+
+    let length = match policy.map(Policy::from) {
+        None => header_body_len(&numbers, id, data, text, pairs, keys),
+        Some(policy) => header_body_len_under_policy(policy, &draft),
+    };
+    coverage.count(operations[0], number(&length));
+    let taken = plain.as_ref().map(|image| image.len() as u64);
+    let taken = taken.map_err(|no| *no);
+    assert_eq!(length.map_err(refusal), taken, "seed {seed}");
+
+    let mut out = case.out.clone();
+    let answer = match policy.map(Policy::from) {
+        None => write_header_body(&numbers, id, data, text, pairs, keys, &mut out),
+        Some(policy) => write_header_body_under_policy(policy, &draft, &mut out),
+    };
+    coverage.count(operations[1], number(&answer));
+    as_expected(seed, &answer, expected);
+    assert_ne!(expected, Expected::Open);
+    if answer.is_ok() {
+        assert_eq!(out[..case.image.len()], case.image, "seed {seed}");
+    }
+    output_is(seed, answer, (&case.out, &out), plain);
 }
 
 /// As of bodies: each is written, and its length asked before.
