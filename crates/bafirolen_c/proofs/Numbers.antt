@@ -2,13 +2,10 @@
 use Prim.Native.Nat.{ℕ, _<_}
 use native.Mathlib.Omega.{arith}
 use mathlib.Core.Path.{_≡_, refl, ap, _∙_}
-use mathlib.Core.Bool.{true}
-use lib.Dec.{eqb}
 use borrow.Author.Tests.{eqb-true, ne-eqb}
 use Rattle.format.specs.Policies.{lets-read}
 use Rattle.format.proofs.ListedEnds.{two-read}
 use Rattle.request.specs.Codes.{policy-of}
-use Rattle.request.specs.declared.Policy.{Policy}
 use Rattle.request.specs.declared.Policy.the-variants.{RequireEncryptRequireDecrypt}
 use Rattle.bafirolen_c.specs.Asked.{policy-asked, PolicyNumbers}
 

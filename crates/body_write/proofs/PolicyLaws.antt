@@ -9,7 +9,7 @@ use Rattle.format.specs.Read.{Answer, refused}
 use Rattle.format.specs.Shared.{id-length}
 use Rattle.format.specs.Policies.{no-policy, lets-write}
 use Rattle.format.specs.Checks.{Check, check, first, lead-checks, opening-checks}
-use Rattle.format.specs.Lent.{size-of, written, output-after, writing-header-body-under, writing-header-body}
+use Rattle.format.specs.Lent.{size-of, writing-header-body-under, writing-header-body}
 use Rattle.format.specs.UnderPolicy.{forbids-checked, forbids-writing}
 use Rattle.format.proofs.UnderPolicy.{under-policy}
 use Rattle.wire.specs.Codes.{because}

@@ -13,12 +13,12 @@ use Rattle.format.specs.Context.{Mode, tolerant, strict, read-aad-section, read
 use Rattle.format.specs.Keys.{at-most, read-encrypted-data-keys-section-into}
 use Rattle.format.specs.Policies.{Policy, no-policy, forbid-encrypt-allow-decrypt, require-encrypt-allow-decrypt, require-encrypt-require-decrypt, lets-read}
 use Rattle.format.specs.Body.{Which, either, v1-only, v2-only, read-header-body-under}
-use Rattle.format.specs.Fields.{Form, today, old}
-use Rattle.format.specs.Auth.{read-header-auth-tag, read-header-auth-tag-of, zeros}
+use Rattle.format.specs.Fields.{old}
+use Rattle.format.specs.Auth.{read-header-auth-tag, read-header-auth-tag-of}
 use Rattle.format.specs.Frames.{read-frames-into}
 use Rattle.format.specs.OnlyAuthenticated.{write-only-authenticated}
 use Rattle.format.specs.Checks.{first, frames-checks}
-use Rattle.format.specs.Lent.{items, in-text, part-in, frame-in, frames-in, table-checks, BodyToWrite, fields-to-write, size-of, writing-header-body-under, writing-header-body, writing-frames}
+use Rattle.format.specs.Lent.{items, in-text, part-in, frame-in, frames-in, table-checks, size-of, writing-frames}
 use Rattle.format.specs.Refusals.{section-refusals, lead-refusals, forbidden-refusals, opening-refusals, passing, numbers-behind, reserved-refusals, frame-refusals, closing-refusals, key-section-refusals, keys-refusals, body-refusals, auth-refusals, frames-refusals}
 use Rattle.cases.specs.Cases.{H, opened, laid-out}
 use Rattle.cases.specs.Headers.{bytes-from, V2}

@@ -1,6 +1,6 @@
 -- Bodies under each policy, of both versions, by each reader and by the writer; and 39 beside what stands before it and behind it. Assumes nothing.
 use mathlib.Core.Path.{_≡_, refl}
-use mathlib.Core.Bool.{Bool, true, false}
+use mathlib.Core.Bool.{Bool, true}
 use mathlib.Core.Option.{Option, none, some}
 use mathlib.Core.List.{List, [], _∷_, _++_}
 use Prim.Native.Nat.{ℕ}
@@ -8,14 +8,14 @@ use lib.Dec.{eqb}
 use lib.ListN.{take, drop}
 use Rattle.format.specs.Read.{operation}
 use Rattle.format.specs.Serialize.{every}
-use Rattle.format.specs.Fields.{today, old}
+use Rattle.format.specs.Fields.{today}
 use Rattle.format.specs.Context.{Mode, tolerant, strict}
 use Rattle.format.specs.Keys.{no-max}
 use Rattle.format.specs.Policies.{Policy, no-policy, forbid-encrypt-allow-decrypt, require-encrypt-allow-decrypt, require-encrypt-require-decrypt}
 use Rattle.format.specs.Body.{Which, either, v1-only, v2-only, read-header-body-under}
 use Rattle.format.specs.Auth.{zeros}
 use Rattle.format.specs.Checks.{first}
-use Rattle.format.specs.Lent.{items, in-text, part-in, table-checks, BodyToWrite, fields-to-write, Writing, writing-header-body-under}
+use Rattle.format.specs.Lent.{items, in-text, part-in, table-checks, BodyToWrite, fields-to-write, writing-header-body-under}
 use Rattle.cases.specs.Cases.{Expected, refuses, shortage-at, is, body-numbers, H, H-read, opened, laid-out}
 use Rattle.cases.specs.Headers.{bytes-from, V2, V2-read}
 use Rattle.cases.specs.Faults.{id, some-text, one, lent-in}

@@ -4,9 +4,7 @@ use native.Mathlib.Omega.{arith}
 use mathlib.Core.Path.{_≡_, sym, ap, _∙_}
 use mathlib.Core.Bool.{Bool, true, false}
 use mathlib.Core.List.{List}
-use borrow.Author.Tests.{eq-eqb, ne-eqb}
-use lib.Dec.{eqb}
-use lib.ListN.{length}
+use borrow.Author.Tests.{ne-eqb}
 use Rattle.format.specs.Read.{_>>=_, return, Answer, accepted, refused, at}
 use Rattle.format.specs.Serialize.{read}
 use Rattle.format.specs.Shared.{id-length}
@@ -18,7 +16,7 @@ use Rattle.wire.specs.Codes.{because, span-of, why-span}
 use Rattle.wire.specs.declared.Refusal.{Refusal}
 use Rattle.wire.specs.declared.Span.{Span}
 use Rattle.wire.specs.declared.Span.the-variants as span
-use Rattle.wire.proofs.Answers.{Given, span-got, span-no}
+use Rattle.wire.proofs.Answers.{span-got, span-no}
 use Rattle.request.specs.Codes.{which-of, policy-of}
 use Rattle.request.specs.declared.Which.{Which}
 use Rattle.request.specs.declared.Policy.{Policy}

@@ -66,10 +66,6 @@ unfolding lead-here
 lead-version true m s = refl
 lead-version false m s = refl
 
-id-long : (b : Bool) → id-length (cond b 1 2) ≡ cond b 16 32
-id-long true = refl
-id-long false = refl
-
 -- 39 stands right after 7
 pub policy-after-7 : (v1 : Bool) (which : Which) (policy : Policy) (m : List ℕ) (s : ℕ) → eqb (number8 m s) 1 ≡ v1
     → map line-number (opening-list which policy m s) ≡ cond v1 (2 ∷ 3 ∷ 4 ∷ 2 ∷ 5 ∷ 2 ∷ 6 ∷ 7 ∷ 39 ∷ 2 ∷ []) (2 ∷ 3 ∷ 4 ∷ 2 ∷ 6 ∷ 7 ∷ 39 ∷ 2 ∷ [])

@@ -9,7 +9,7 @@ use lib.Dec.{eqb}
 use lib.ListN.{length, drop, length-drop}
 use Rattle.format.specs.Read.{ReadResult, success, more-needed, error, Reader, _>>=_, _>>_, return, test, End, no-end, end-at, Answer, refused, answer, operation}
 use Rattle.format.specs.Serialize.{Part, read-short-length-seq, same-bytes}
-use Rattle.format.specs.Shared.{read-message-format-version, read-esdk-suite-id, read-content-type, frame-fits}
+use Rattle.format.specs.Shared.{frame-fits}
 use Rattle.format.specs.Fields.{PairAt, EncryptedDataKeyAt}
 use Rattle.format.specs.Context.{Mode, tolerant, strict, read-text, read-aad-pair, read-next-aad-pair, read-aad-by, read-aad, read-aad-of, read-aad-section, ContextAt, with-mark, read-aad-section-into, look-up, find-value}
 use Rattle.format.specs.Keys.{Max, read-encrypted-data-key, read-encrypted-data-keys-of, read-encrypted-data-keys-section, read-encrypted-data-keys-section-into}
@@ -18,9 +18,8 @@ use Rattle.format.specs.Body.{Which, Opening, read-opening, Request, aft
 use Rattle.format.specs.Auth.{read-header-auth-tag-of, read-header-auth-tag}
 use Rattle.format.specs.OnlyAuthenticated.{fitting, write-only-authenticated}
 use Rattle.format.specs.Refusals.{section-refusals, context-refusals, find-refusals, only-authenticated-refusals, opening-refusals, passing, closing-refusals, numbers-behind, key-section-refusals, keys-refusals, body-refusals, auth-refusals, frames-refusals, Refusal, RefusesBy, Refusals}
-use Rattle.format.proofs.Tests.{is-eqb}
 use Rattle.format.proofs.Members.{has, has-neither, no-member}
-use Rattle.format.proofs.ListedLaws.{Fine, Listed, listed-as, also, bind-listed, then-listed, return-listed, sure-listed, test-listed, held-refusals, held-listed, read-listed, uint8-listed, uint16-listed, uint32-listed, repeat-listed, enclosed-listed, given-listed, marked-listed}
+use Rattle.format.proofs.ListedLaws.{Fine, Listed, listed-as, bind-listed, then-listed, return-listed, sure-listed, test-listed, held-refusals, held-listed, read-listed, uint16-listed, repeat-listed, enclosed-listed, given-listed, marked-listed}
 use Rattle.format.proofs.ListedEnds.{Opened, opening-listed, opening-gives, closing-listed, tables-listed, frames-listed, Without, opening-without, closing-without}
 use Rattle.format.proofs.Frames.{frames-into-listed}
 use Rattle.format.proofs.Messages.{cases}

@@ -1,6 +1,6 @@
 -- Which refusals what stands before a body's sections and behind them can answer. Assumes nothing.
 use mathlib.Core.Path.{_≡_, refl, sym, ap, _∙_}
-use mathlib.Core.Bool.{Bool, true, false, not, _||_, false≢true}
+use mathlib.Core.Bool.{Bool, true, false, not, _||_}
 use mathlib.Core.Logic.{_⊎_, inl, inr}
 use mathlib.Core.Option.{Option, none, some}
 use mathlib.Core.List.{List, [], _∷_, _++_}
@@ -11,7 +11,7 @@ use Rattle.format.specs.Shared.{read-message-format-version, read-esdk-s
 use Rattle.format.specs.Policies.{Policy, no-policy, forbid-encrypt-allow-decrypt, require-encrypt-allow-decrypt, require-encrypt-require-decrypt, lets-read}
 use Rattle.format.specs.Body.{Which, either, v1-only, v2-only, Lead, read-lead-of, read-lead, Opening, after-lead, read-opening, read-closing-of, read-closing}
 use Rattle.format.specs.Refusals.{lead-refusals, forbidden-refusals, opening-refusals, passing, reserved-refusals, frame-refusals, closing-refusals}
-use Rattle.format.proofs.Tests.{is-eqb}
+use Rattle.format.proofs.Tests.{never, is-eqb}
 use Rattle.format.proofs.Members.{has, has-neither}
 use Rattle.format.proofs.ListedLaws.{Listed, also, bind-listed, then-listed, behind-listed, return-listed, sure-listed, test-listed, read-listed, uint8-listed, uint16-listed, uint32-listed, Gives, return-gives, given-gives, bind-gives, passed-listed, passed-gives, given-listed}
 
@@ -109,9 +109,9 @@ unfolding passing
 passes policy version let-it true e either h = tt
 passes policy version let-it true e v1-only h = tt
 passes policy version let-it true e v2-only h = h
-passes policy version let-it false e either (inl h) = absurd (false≢true (sym e ∙ ap (lets-read policy) (sym h) ∙ let-it))
+passes policy version let-it false e either (inl h) = never (ap (lets-read policy) (sym h) ∙ let-it) e
 passes policy version let-it false e either (inr h) = h
-passes policy version let-it false e v1-only h = absurd (false≢true (sym e ∙ ap (lets-read policy) (sym h) ∙ let-it))
+passes policy version let-it false e v1-only h = never (ap (lets-read policy) (sym h) ∙ let-it) e
 passes policy version let-it false e v2-only h = h
 
 pub opening-gives : (which : Which) (policy : Policy) → Gives (λ (o : Opening). Opened (passing (lets-read policy 1) which) (o .version)) (read-opening which policy)

@@ -14,7 +14,7 @@ use Rattle.format.specs.Context.{Mode, tolerant, strict}
 use Rattle.format.specs.Keys.{Max}
 use Rattle.format.specs.Policies.{Policy, no-policy, lets-read}
 use Rattle.format.specs.Body.{Which, either, v1-only, v2-only, tests-frames, Lead, read-lead, after-lead, read-opening, Request, request-under, request, after-keys, after-context, after-opening, read-body, read-header-body-under, read-header-body}
-use Rattle.format.specs.Lent.{table-after, pair-table-after, key-table-after, pair-numbers, key-numbers}
+use Rattle.format.specs.Lent.{pair-table-after, key-table-after, pair-numbers, key-numbers}
 use Rattle.format.specs.Places.{number8}
 use Rattle.format.specs.First.{NoneApplies, operation-list, lead-list}
 use Rattle.format.specs.Refusals.{section-refusals, key-section-refusals, lead-refusals, forbidden-refusals, passing, numbers-behind, opening-refusals, reserved-refusals, frame-refusals, closing-refusals, body-refusals}
@@ -28,6 +28,8 @@ use Rattle.format.proofs.Lines.{one-none, applies-none}
 use Rattle.format.proofs.Messages.{refused-is-no-accepted}
 use Rattle.format.proofs.FirstBody.{lead-here, id-start, lead-goes, lead-version, versioned, first-refusal, none-applied}
 use Rattle.format.proofs.Listed.{never-listed, refusals}
+use Rattle.format.proofs.Strict.{same-table}
+use Rattle.format.proofs.Tests.{never}
 use Rattle.format.proofs.Either as either-version
 
 -- an answer of which one case is replaced
@@ -42,10 +44,6 @@ module _ {A : Type 0} where
       by : (b : Bool) → cond b (refused k 0) x ≡ refused k 0 → b ≡ true
       by true h = refl
       by false h = absurd (never 0 h)
-
-  same-table : (numbers : A → List ℕ) (b : Bool) (k : ℕ) (a : Answer A) (table : List ℕ) → table-after numbers (cond b (refused k 0) a) table ≡ cond b table (table-after numbers a table)
-  same-table numbers true k a table = refl
-  same-table numbers false k a table = refl
 
 pub not-let : (b : Bool) → not b ≡ true → b ≡ false
 not-let true e = sym e
@@ -107,7 +105,7 @@ module _ (policy : Policy) (max : Max) (pairRoom keyRoom : ℕ) (m : List ℕ) (
   -- where it is forbidden, what would be accepted without a policy is refused
   forbidden : length m ≤ 4294967295 → (w : Writer) (f : Fields) → Stands max pairRoom keyRoom m s w f → lets-read policy (f .version) ≡ false
       → operation (read-header-body-under policy either tolerant max pairRoom keyRoom) m s ≡ refused 39 0
-  forbidden fits w f h not-let = go (forbids-reading policy either m s) refl
+  forbidden fits w f h forbids-it = go (forbids-reading policy either m s) refl
     where
       go : (b : Bool) → forbids-reading policy either m s ≡ b → operation (read-header-body-under policy either tolerant max pairRoom keyRoom) m s ≡ refused 39 0
       go true e = answers policy either tolerant max pairRoom keyRoom m s ∙ rw e refl
@@ -116,8 +114,7 @@ module _ (policy : Policy) (max : Max) (pairRoom keyRoom : ℕ) (m : List ℕ) (
           let under = answers policy either tolerant max pairRoom keyRoom m s ∙ ap (λ c. cond c (refused 39 0) (operation (read-header-body either tolerant max pairRoom keyRoom) m s)) e ∙ is in
           let (w′, f′, stands, lets, gives′, mark, tail) = either-version.only policy max pairRoom keyRoom m s hb b _ under in
           let same : f ≡ f′ = sym (gives .fields) ∙ gives′ .fields in
-          let z : _≡_ {A = ℕ} 0 1 = (let y : false ≡ true = sym not-let ∙ ap (λ (g : Fields). lets-read policy (g .version)) same ∙ lets in cc) in
-          absurd (omega arith)
+          never (ap (λ (g : Fields). lets-read policy (g .version)) same ∙ lets) forbids-it
 
   pub images : ReadsImages policy max pairRoom keyRoom m s
   images =

@@ -2,25 +2,25 @@
 use mathlib.Core.Path.{_≡_, refl, sym, ap, subst₂, _∙_}
 use mathlib.Core.Bool.{Bool, true, false, not, _&&_, _||_, cond}
 use mathlib.Core.List.{List, [], _∷_, _++_}
-use Prim.Native.Nat.{ℕ, suc, _+_, _*_, _≤_, _<_}
+use Prim.Native.Nat.{ℕ, _+_, _*_, _≤_, _<_}
 use native.Mathlib.Omega.{arith}
 use lib.Dec.{leb, eqb}
-use lib.ListN.{length, take, drop, length-append}
+use lib.ListN.{length, take, drop}
 use Rattle.format.specs.Read.{ReadResult, success, more-needed, error, Reader, go-on, _>>=_, _>>_, return, test, end-at, enclosed, Answer, accepted, refused, answer, at, operation}
-use Rattle.format.specs.Serialize.{Bytes, read-uint, read-uint16, write-uint16, same-bytes}
+use Rattle.format.specs.Serialize.{Bytes, read-uint, read-uint16, same-bytes}
 use Rattle.format.specs.Shared.{by}
 use Rattle.format.specs.Fields.{PairAt, HeaderBody}
 use Rattle.format.specs.Context.{Mode, tolerant, strict, read-next-aad-pair, read-aad-by, read-aad, read-aad-of, read-aad-section, mark, with-mark}
 use Rattle.format.specs.Keys.{Max}
 use Rattle.format.specs.Policies.{Policy}
 use Rattle.format.specs.Body.{Which, tests-frames, Opening, read-opening, Request, request-under, after-keys, after-context, after-opening, read-body, read-header-body-under}
-use Rattle.format.specs.Lent.{bytes-at, table-after, pair-table-after, key-table-after, pair-numbers, key-numbers}
+use Rattle.format.specs.Lent.{table-after, pair-table-after, key-table-after, pair-numbers, key-numbers}
 use Rattle.format.specs.Demand3.{old-empty, reached-old, reaches-old, Sentence2}
-use Rattle.format.proofs.Tests.{is-eqb, eqb-is, neqb-is}
-use Rattle.format.proofs.Exact.{Took, held-fits, enclosed-fits, enclosed-short}
-use Rattle.format.proofs.Serialize.{read-short, two-bytes, length-uint16}
-use Rattle.format.proofs.Ends.{Top, TopOk, top-bytes, top-at, v1-of, top-long, opening-exact}
-use Rattle.format.proofs.Messages.{accepted-took, rest-is, cases, operation-here, bytes-drop}
+use Rattle.format.proofs.Tests.{is-eqb, eqb-is}
+use Rattle.format.proofs.Exact.{held-fits, enclosed-fits, enclosed-short}
+use Rattle.format.proofs.Serialize.{read-short, two-bytes}
+use Rattle.format.proofs.Ends.{Top, top-bytes, v1-of, top-long, opening-exact}
+use Rattle.format.proofs.Messages.{accepted-took, rest-is, bytes-drop}
 
 too-short : (l : List ℕ) (s : ℕ) → length l < 2 → read-uint16 l s ≡ more-needed (s + 2)
 unfolding read-uint16 read-uint _>>=_
@@ -164,6 +164,11 @@ answer-cond : {A : Type 0} (b : Bool) (k : ℕ) (x : ReadResult A) → answer (c
 answer-cond true k x = refl
 answer-cond false k x = refl
 
+-- a table, where one case of an answer is replaced by a refusal
+pub same-table : {A : Type 0} (numbers : A → List ℕ) (b : Bool) (k : ℕ) (a : Answer A) (table : List ℕ) → table-after numbers (cond b (refused k 0) a) table ≡ cond b table (table-after numbers a table)
+same-table numbers true k a table = refl
+same-table numbers false k a table = refl
+
 module _ (which : Which) (policy : Policy) (m : List ℕ) (s : ℕ) (hb : Bytes m) where
   -- the section that a body reader reaches
   pub reached : (o : Opening) (t : ℕ) → operation (read-opening which policy) m s ≡ accepted o t → t ≡ s + by (o .version) 20 35
@@ -209,15 +214,11 @@ module _ (policy : Policy) (which : Which) (max : Max) (pairRoom keyRoom : ℕ) 
       go true = in-body (read-opening which policy (drop s m) s) refl
       go false = refl
 
-  same-table : (numbers : HeaderBody → List ℕ) (b : Bool) (a : Answer HeaderBody) (table : List ℕ) → table-after numbers (cond b (refused 21 0) a) table ≡ cond b table (table-after numbers a table)
-  same-table numbers true a table = refl
-  same-table numbers false a table = refl
-
   pub sentence-2 : Sentence2 policy which max pairRoom keyRoom m s
   sentence-2 =
       record {
         answers = strict-reader;
-        pair-table = λ table. ap (λ a. pair-table-after a table) strict-reader ∙ same-table (λ b. pair-numbers (b .pairs)) (reaches-old policy which m s) _ table;
-        key-table = λ table. ap (λ a. key-table-after a table) strict-reader ∙ same-table (λ b. key-numbers (b .keys)) (reaches-old policy which m s) _ table;
+        pair-table = λ table. ap (λ a. pair-table-after a table) strict-reader ∙ same-table (λ (b : HeaderBody). pair-numbers (b .pairs)) (reaches-old policy which m s) 21 _ table;
+        key-table = λ table. ap (λ a. key-table-after a table) strict-reader ∙ same-table (λ (b : HeaderBody). key-numbers (b .keys)) (reaches-old policy which m s) 21 _ table;
         reached = reached which policy m s hb;
       }

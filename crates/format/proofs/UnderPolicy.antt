@@ -5,7 +5,6 @@ use mathlib.Core.Logic.{_⊎_, inl, inr}
 use mathlib.Core.Option.{none}
 use mathlib.Core.List.{List}
 use Prim.Native.Nat.{ℕ, _*_, _≤_, _<_}
-use native.Mathlib.Omega.{arith}
 use lib.ListN.{length}
 use Rattle.format.specs.Read.{accepted, operation}
 use Rattle.format.specs.Serialize.{read}
@@ -23,6 +22,7 @@ use Rattle.format.proofs.Firsts.{holds}
 use Rattle.format.proofs.FirstBody.{first-refusals}
 use Rattle.format.proofs.ListedEnds.{two-read}
 use Rattle.format.proofs.Writers.{writer-law}
+use Rattle.format.proofs.Tests.{never}
 use Rattle.format.proofs.Strict as strict-reader
 use Rattle.format.proofs.OneVersion as one-version
 use Rattle.format.proofs.Written as written-body
@@ -33,15 +33,12 @@ use Rattle.format.proofs.PolicyWritten.{answer-of, output, writes, forb
 use mathlib.Core.Logic.{⊎-elim}
 
 -- the table, row by row
-different : {A : Type 0} → true ≡ false → A
-different e = let z : _≡_ {A = ℕ} 0 1 = cc in absurd (omega arith)
-
 writes-version-1 : (policy : Policy) → JustWhere (lets-write policy 1 ≡ false) ((policy ≡ require-encrypt-allow-decrypt) ⊎ (policy ≡ require-encrypt-require-decrypt))
 writes-version-1 policy = record { onward = on policy; back = ⊎-elim (ap (λ p. lets-write p 1)) (ap (λ p. lets-write p 1)) }
   where
     on : (policy : Policy) → lets-write policy 1 ≡ false → (policy ≡ require-encrypt-allow-decrypt) ⊎ (policy ≡ require-encrypt-require-decrypt)
-    on no-policy e = different e
-    on forbid-encrypt-allow-decrypt e = different e
+    on no-policy e = never refl e
+    on forbid-encrypt-allow-decrypt e = never refl e
     on require-encrypt-allow-decrypt e = inl refl
     on require-encrypt-require-decrypt e = inr refl
 
@@ -49,18 +46,18 @@ writes-version-2 : (policy : Policy) → JustWhere (lets-write policy 2 ≡ fals
 writes-version-2 policy = record { onward = on policy; back = ap (λ p. lets-write p 2) }
   where
     on : (policy : Policy) → lets-write policy 2 ≡ false → policy ≡ forbid-encrypt-allow-decrypt
-    on no-policy e = different e
+    on no-policy e = never refl e
     on forbid-encrypt-allow-decrypt e = refl
-    on require-encrypt-allow-decrypt e = different e
-    on require-encrypt-require-decrypt e = different e
+    on require-encrypt-allow-decrypt e = never refl e
+    on require-encrypt-require-decrypt e = never refl e
 
 reads-version-1 : (policy : Policy) → JustWhere (lets-read policy 1 ≡ false) (policy ≡ require-encrypt-require-decrypt)
 reads-version-1 policy = record { onward = on policy; back = ap (λ p. lets-read p 1) }
   where
     on : (policy : Policy) → lets-read policy 1 ≡ false → policy ≡ require-encrypt-require-decrypt
-    on no-policy e = different e
-    on forbid-encrypt-allow-decrypt e = different e
-    on require-encrypt-allow-decrypt e = different e
+    on no-policy e = never refl e
+    on forbid-encrypt-allow-decrypt e = never refl e
+    on require-encrypt-allow-decrypt e = never refl e
     on require-encrypt-require-decrypt e = refl
 
 -- what a policy lets be written, it lets be read

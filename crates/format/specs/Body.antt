@@ -157,9 +157,6 @@ request = request-under no-policy
 abbrev pub read-header-body : Which → Mode → Max → ℕ → ℕ → Reader HeaderBody
 read-header-body = read-header-body-under no-policy
 
-abbrev pub read-header-body-untested : Mode → Max → ℕ → ℕ → Reader HeaderBody
-read-header-body-untested = read-header-body-untested-under no-policy
-
 -- before the context section, after the version byte; true: version 1
 unfoldable pub write-opening-of : Bool → ℕ → ℕ → List ℕ → List ℕ
 write-opening-of true messageType suite messageId = (messageType ∷ []) ++ (write-uint16 suite ++ messageId)

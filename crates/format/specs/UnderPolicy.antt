@@ -17,7 +17,7 @@ use Rattle.format.specs.Keys.{Max, within}
 use Rattle.format.specs.Policies.{Policy, forbid-encrypt-allow-decrypt, require-encrypt-allow-decrypt, require-encrypt-require-decrypt, lets-write, lets-read}
 use Rattle.format.specs.Body.{Which, either, Lead, read-lead, tests-frames, request-under, read-header-body-under, read-header-body}
 use Rattle.format.specs.Checks.{first, lead-checks, opening-checks}
-use Rattle.format.specs.Lent.{written, size-of, output-after, pair-table-after, key-table-after, Writing, BodyToWrite, fields-to-write, writing-header-body-under, writing-header-body}
+use Rattle.format.specs.Lent.{written, size-of, output-after, pair-table-after, key-table-after, BodyToWrite, fields-to-write, writing-header-body-under, writing-header-body}
 use Rattle.format.specs.Places.{number8, body-here, body-end}
 use Rattle.format.specs.First.{NoneApplies, operation-list, lead-list, opening-list, body-list, FirstRefusal}
 use Rattle.format.specs.Demand3.{Writer, mark-by, image-by, Stands, Gives, Sentence2, Sentence3}

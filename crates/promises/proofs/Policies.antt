@@ -4,15 +4,15 @@ use mathlib.Core.Path.{_≡_, refl, sym, ap, subst, _∙_}
 use mathlib.Core.Bool.{Bool, true, false, cond}
 use mathlib.Core.List.{List}
 use lib.ListN.{length}
-use Rattle.format.specs.Read.{Answer, accepted, refused, operation}
+use Rattle.format.specs.Read.{Answer, refused, operation}
 use Rattle.format.specs.Serialize.{Bytes}
-use Rattle.format.specs.Fields.{form-number, Fields}
+use Rattle.format.specs.Fields.{form-number}
 use Rattle.format.specs.Fields.{HeaderBody as BodyRead}
 use Rattle.format.specs.Context.{Mode, tolerant}
 use Rattle.format.specs.Keys.{Max, within}
 use Rattle.format.specs.Policies.{Policy}
 use Rattle.format.specs.Body.{Which, either, read-header-body}
-use Rattle.format.specs.Lent.{written, output-after, size-of, BodyToWrite, writing-header-body-under, writing-header-body}
+use Rattle.format.specs.Lent.{writing-header-body-under, writing-header-body}
 use Rattle.format.specs.Size.{size-refusals}
 use Rattle.format.specs.Demand3.{Gives}
 use Rattle.format.specs.UnderPolicy.{forbids-reading, forbids-writing}
