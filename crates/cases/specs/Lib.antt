@@ -7,3 +7,4 @@ pub mod Faults
 pub mod Policies
 pub mod Occurs
 pub mod Sourced
+pub mod Fetched

@@ -99,7 +99,7 @@ frame-of-takes frame due true mark =
     test-takes 35 _ (bind-takes (sealed-takes iv n) (λ f. return-takes _))))))
 frame-of-takes frame due false number = test-takes 34 _ (bind-takes (any-takes (read-takes iv-length)) (λ iv. bind-takes (sealed-takes iv frame) (λ f. return-takes _)))
 
-frame-takes : (frame due : ℕ) → Takes 1 (read-frame frame due)
+pub frame-takes : (frame due : ℕ) → Takes 1 (read-frame frame due)
 unfolding read-frame
 frame-takes frame due = fewer-takes (bind-takes uint32-takes (λ number. frame-of-takes frame due _ number)) (omega arith)
 

@@ -9,10 +9,11 @@ use native.Mathlib.Omega.{arith}
 use lib.Dec.{leb, eqb}
 use lib.ListN.{length, drop, length-drop}
 use Rattle.format.specs.Read.{ReadResult, success, more-needed, error, Reader, go-on, _>>=_, _>>_, return, test, end-at, held, repeat, enclosed, Answer, refused, answer, at, operation}
-use Rattle.format.specs.Serialize.{read, read-uint, read-uint16, read-short-length-seq}
+use Rattle.format.specs.Serialize.{Part, same-bytes, read, read-uint, read-uint16, read-short-length-seq}
 use Rattle.format.specs.Fields.{PairAt}
-use Rattle.format.specs.Context.{Mode, read-text, read-aad-pair, read-next-aad-pair, read-aad-by, read-aad, read-aad-of, read-aad-section, read-aad-section-into}
+use Rattle.format.specs.Context.{Mode, read-text, read-aad-pair, read-next-aad-pair, read-aad-by, read-aad, read-aad-of, read-aad-section, read-aad-section-into, look-up}
 use Rattle.format.specs.Places.{number16, entry-end}
+use Rattle.format.specs.Refusals.{RefusesBy}
 use Rattle.format.proofs.Tests.{is-leb, is-nleb}
 use Rattle.format.proofs.Exact.{held-fits, held-past, enclosed-fits, enclosed-short}
 use Rattle.format.proofs.Serialize.{read-fits, read-short}
@@ -91,25 +92,34 @@ module _ (e : ℕ) where
       held-reaches e 2 _ (λ l s h k. goes-on e _ (λ count. test-reaches e 8 _ (test-reaches e 21 _ (test-reaches e 9 _ (pairs-reach count [])))) (read-uint16 l s) (uint16-full l s h k))
 
 -- a result that is short wants what P says
-abbrev Asks : {A : Type 0} → (ℕ → Type 0) → ReadResult A → Type 0
+abbrev pub Asks : {A : Type 0} → (ℕ → Type 0) → ReadResult A → Type 0
 Asks P (success a l t) = Unit {0}
 Asks P (more-needed p) = P p
 Asks P (error k) = Unit {0}
+
+pub asks-as : {A : Type 0} (P Q : ℕ → Type 0) → ((p : ℕ) → P p → Q p) → (x : ReadResult A) → Asks P x → Asks Q x
+asks-as P Q f (success a l t) h = tt
+asks-as P Q f (more-needed p) h = f p h
+asks-as P Q f (error k) h = tt
 
 full-asks : {A : Type 0} (P : ℕ → Type 0) (e : ℕ) (x : ReadResult A) → Full e x → Asks P x
 full-asks P e (success a l t) h = tt
 full-asks P e (more-needed p) h = absurd h
 full-asks P e (error k) h = tt
 
-asks-on : {A B : Type 0} (P : ℕ → Type 0) (f : A → Reader B) → ((a : A) (l : List ℕ) (t : ℕ) → Asks P (f a l t)) → (x : ReadResult A) → Asks P x → Asks P (go-on x f)
+pub asks-on : {A B : Type 0} (P : ℕ → Type 0) (f : A → Reader B) → ((a : A) (l : List ℕ) (t : ℕ) → Asks P (f a l t)) → (x : ReadResult A) → Asks P x → Asks P (go-on x f)
 asks-on P f h (success a l t) w = h a l t
 asks-on P f h (more-needed p) w = w
 asks-on P f h (error k) w = tt
 
-tested : {A : Type 0} (P : ℕ → Type 0) (k : ℕ) (b : Bool) (a : A) (l : List ℕ) (t : ℕ) → Asks P ((test k b >> return a) l t)
-unfolding test return _>>_
-tested P k true a l t = tt
-tested P k false a l t = tt
+pub test-asks : {A : Type 0} (P : ℕ → Type 0) (k : ℕ) (b : Bool) (q : Reader A) (l : List ℕ) (t : ℕ) → Asks P (q l t) → Asks P ((test k b >> q) l t)
+unfolding test _>>_
+test-asks P k true q l t h = h
+test-asks P k false q l t h = tt
+
+pub tested : {A : Type 0} (P : ℕ → Type 0) (k : ℕ) (b : Bool) (a : A) (l : List ℕ) (t : ℕ) → Asks P ((test k b >> return a) l t)
+unfolding return
+tested P k b a l t = test-asks P k b (return a) l t tt
 
 read-asks : (n : ℕ) (l : List ℕ) (s : ℕ) → Asks (λ p. p ≡ s + n) (read n l s)
 read-asks n l s = by (leb n (length l)) refl
@@ -123,7 +133,7 @@ unfolding read-uint16 read-uint return _>>=_
 uint16-asks l s = asks-on (λ p. p ≡ s + 2) _ (λ p l t. tt) (read 2 l s) (read-asks 2 l s)
 
 -- what follows the length n of a section
-of-asks : (mode : Mode) (b : Bool) (n : ℕ) (l : List ℕ) (s : ℕ) → Asks (λ p. p ≡ s + n) (read-aad-of mode b n l s)
+pub of-asks : (mode : Mode) (b : Bool) (n : ℕ) (l : List ℕ) (s : ℕ) → Asks (λ p. p ≡ s + n) (read-aad-of mode b n l s)
 unfolding read-aad-of return _>>=_ _>>_
 of-asks mode true n l s = tt
 of-asks mode false n l s = by (leb n (length l)) refl
@@ -137,7 +147,7 @@ of-asks mode false n l s = by (leb n (length l)) refl
     by false h = rw (enclosed-short n 14 (read-aad mode n) l s (is-nleb _ _ h)) refl
 
 module _ (mode : Mode) (m : List ℕ) (s : ℕ) where
-  abbrev Helps : ℕ → Type 0
+  abbrev pub Helps : ℕ → Type 0
   Helps p = (p ≡ s + 2) ⊎ (p ≡ entry-end m s)
 
   section-helps : Asks Helps (read-aad-section mode (drop s m) s)
@@ -155,25 +165,46 @@ module _ (mode : Mode) (m : List ℕ) (s : ℕ) where
       by (more-needed p) e w = inl w
       by (error k) e w = tt
 
-pub section-wants : (mode : Mode) (room : ℕ) (m : List ℕ) (s p : ℕ) → operation (read-aad-section-into mode room) m s ≡ refused 2 p → (p ≡ s + 2) ⊎ (p ≡ entry-end m s)
-unfolding read-aad-section-into _>>=_
-section-wants mode room m s p e = cases (read-aad-section-into mode room) m s far near
+-- looking up wants nothing
+pub looks : (P : ℕ → Type 0) (k : List ℕ) (ps : List PairAt) (l : List ℕ) (s : ℕ) → Asks P (look-up k ps l s)
+unfolding look-up
+looks P k [] l s = tt
+looks P k (p ∷ ps) l s = by (same-bytes k (p .key .bytes)) (looks P k ps l s)
   where
-    far : operation (read-aad-section-into mode room) m s ≡ refused 1 0 → Helps mode m s p
-    far q =
-        let z : _≡_ {A = Answer (List PairAt)} (refused 1 0) (refused 2 p) = sym q ∙ e in
-        let k : _≡_ {A = ℕ} 1 2 = cc in
-        absurd (omega arith)
+    by : (b : Bool) → Asks P (look-up k ps l s) → Asks {A = Part} P (elim b as (λ x. ReadResult Part) [ true ↦ success (p .value) l s | false ↦ look-up k ps l s ])
+    by true h = tt
+    by false h = h
 
-    of : (x : ReadResult (List PairAt)) → Asks (Helps mode m s) x → answer x ≡ refused 2 p → Helps mode m s p
-    of (success a l t) w q = let z : _≡_ {A = ℕ} 0 1 = cc in absurd (omega arith)
-    of (more-needed u) w q = let z : u ≡ p = cc in rw z at w
-    of (error k) w q =
-        let z : 0 ≡ p = cc in
-        let far : length m < p = refusals .of-context mode room m s 2 p e .wanted refl in
-        absurd (omega arith)
+-- what an operation wants that reads a section and wants nothing behind it
+module _ {A : Type 0} (r : Reader A) {listed : List ℕ} (listed-by : RefusesBy listed r) (mode : Mode) (m : List ℕ) (s : ℕ) where
+  pub wants-as-a-whole : Asks (Helps mode m s) (r (drop s m) s) → (p : ℕ) → operation r m s ≡ refused 2 p → (p ≡ s + 2) ⊎ (p ≡ entry-end m s)
+  wants-as-a-whole asks p e = cases r m s far near
+    where
+      far : operation r m s ≡ refused 1 0 → Helps mode m s p
+      far q =
+          let z : _≡_ {A = Answer A} (refused 1 0) (refused 2 p) = sym q ∙ e in
+          let k : _≡_ {A = ℕ} 1 2 = cc in
+          absurd (omega arith)
 
-    near : length m ≤ 4294967295 → s ≤ 4294967295 → operation (read-aad-section-into mode room) m s ≡ answer (read-aad-section-into mode room (drop s m) s) → Helps mode m s p
-    near a b q =
-        of (read-aad-section-into mode room (drop s m) s)
-        (asks-on (Helps mode m s) _ (λ ps l t. tested (Helps mode m s) 22 _ ps l t) (read-aad-section mode (drop s m) s) (section-helps mode m s)) (sym q ∙ e)
+      of : (x : ReadResult A) → Asks (Helps mode m s) x → answer x ≡ refused 2 p → Helps mode m s p
+      of (success a l t) w q = let z : _≡_ {A = ℕ} 0 1 = cc in absurd (omega arith)
+      of (more-needed u) w q = let z : u ≡ p = cc in rw z at w
+      of (error k) w q =
+          let z : 0 ≡ p = cc in
+          let far : length m < p = listed-by m s 2 p e .wanted refl in
+          absurd (omega arith)
+
+      near : length m ≤ 4294967295 → s ≤ 4294967295 → operation r m s ≡ answer (r (drop s m) s) → Helps mode m s p
+      near a b q = of (r (drop s m) s) asks (sym q ∙ e)
+
+module _ {A : Type 0} (mode : Mode) (m : List ℕ) (s : ℕ) (f : List PairAt → Reader A) (quiet : (ps : List PairAt) (l : List ℕ) (t : ℕ) → Asks (Helps mode m s) (f ps l t)) where
+  pub section-asks : Asks (Helps mode m s) ((read-aad-section mode >>= f) (drop s m) s)
+  unfolding _>>=_
+  section-asks = asks-on (Helps mode m s) f quiet (read-aad-section mode (drop s m) s) (section-helps mode m s)
+
+pub section-into-asks : (mode : Mode) (room : ℕ) (m : List ℕ) (s : ℕ) → Asks (Helps mode m s) (read-aad-section-into mode room (drop s m) s)
+unfolding read-aad-section-into
+section-into-asks mode room m s = section-asks mode m s _ (λ ps l t. tested (Helps mode m s) 22 _ ps l t)
+
+pub section-wants : (mode : Mode) (room : ℕ) (m : List ℕ) (s p : ℕ) → operation (read-aad-section-into mode room) m s ≡ refused 2 p → (p ≡ s + 2) ⊎ (p ≡ entry-end m s)
+section-wants mode room m s p e = wants-as-a-whole (read-aad-section-into mode room) (refusals .of-context mode room) mode m s (section-into-asks mode room m s) p e

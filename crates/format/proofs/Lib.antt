@@ -1,6 +1,8 @@
 pub mod Tests
 pub mod Exact
 pub mod Serialize
+pub mod SteadyLaws
+pub mod Steady
 pub mod Context
 pub mod Takes
 pub mod Compared
@@ -60,3 +62,9 @@ pub mod Selection
 pub mod PolicyRead
 pub mod PolicyWritten
 pub mod UnderPolicy
+pub mod SteadyFrames
+pub mod Trusted
+pub mod RoundsLaws
+pub mod Parts
+pub mod FrameRounds
+pub mod Fetched

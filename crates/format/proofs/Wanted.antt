@@ -79,7 +79,7 @@ key-wants : Header Any read-encrypted-data-key
 unfolding read-encrypted-data-key
 key-wants = bind-wants (text-wants no-end 16) (λ p g. bind-wants (entry-wants no-end) (λ i g. bind-wants (entry-wants no-end) (λ c g. return-wants _)))
 
-keys-wants : (max : Max) → Header Any (read-encrypted-data-keys-section max)
+pub keys-wants : (max : Max) → Header Any (read-encrypted-data-keys-section max)
 unfolding read-encrypted-data-keys-section read-encrypted-data-keys-of
 keys-wants max = bind-wants uint16-wants (λ count g. then-wants (test-wants 38 _) (then-wants (test-wants 15 _) (repeat-wants count (λ acc. key-wants) [])))
 
@@ -97,11 +97,11 @@ unfolding read-lead-of
 rest-wants true = bind-wants uint8-wants (λ t g. then-wants (test-wants 5 _) (bind-wants (suite-wants 1) (λ x g. return-wants _)))
 rest-wants false = bind-wants (suite-wants 2) (λ x g. return-wants _)
 
-version-wants : Header Any read-message-format-version
+pub version-wants : Header Any read-message-format-version
 unfolding read-message-format-version
 version-wants = bind-wants uint8-wants (λ v g. then-wants (test-wants 3 _) (return-wants _))
 
-lead-wants : (which : Which) → Header Any (read-lead which)
+pub lead-wants : (which : Which) → Header Any (read-lead which)
 unfolding read-lead
 lead-wants which = bind-wants version-wants (λ v g. then-wants (test-wants 4 _) (rest-wants (eqb v 1)))
 
@@ -127,7 +127,7 @@ closing-wants : (v1 : Bool) → Header Any (read-closing v1)
 unfolding read-closing
 closing-wants v1 = bind-wants content-wants (λ c g. closing-of-wants v1 c)
 
-after-context-wants : (q : Request) (o : Opening) (x : ContextAt) → Header Any (after-context q o x)
+pub after-context-wants : (q : Request) (o : Opening) (x : ContextAt) → Header Any (after-context q o x)
 unfolding after-context after-keys
 after-context-wants q o x =
     bind-wants (keys-wants (q .max)) (λ ks g. bind-wants (closing-wants (eqb (o .version) 1)) (λ c g.

@@ -29,3 +29,5 @@ pub mod Pinned
 pub mod SourceEquality
 pub mod Selection
 pub mod UnderPolicy
+pub mod Trusted
+pub mod Fetched

@@ -9,3 +9,4 @@ pub mod OnlyAuthenticated
 pub mod Frames
 pub mod FramesWritten
 pub mod Source
+pub mod Trusted

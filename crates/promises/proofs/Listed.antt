@@ -54,7 +54,7 @@ pub back-written : (o : Answer (List ℕ)) (q : Refusal) → written-as o ≡ wr
 back-written (accepted image t) q e = let z : _≡_ {A = ℕ} 0 1 = cc in absurd (omega arith)
 back-written (refused k p) q e = let z : because k p ≡ q = cc in rw (← z) refl
 
-back-frames : (o : Answer (List FrameAt)) (q : Refusal) → frames-of o ≡ frames.Refused q → o ≡ refused (q .number) (q .position)
+pub back-frames : (o : Answer (List FrameAt)) (q : Refusal) → frames-of o ≡ frames.Refused q → o ≡ refused (q .number) (q .position)
 back-frames (accepted fs t) q e = let z : _≡_ {A = ℕ} 0 1 = cc in absurd (omega arith)
 back-frames (refused k p) q e = let z : because k p ≡ q = cc in rw (← z) refl
 
