@@ -8,7 +8,8 @@
  *
  * THE SHORTEST USE. bafirolen_header_number says of the bytes at a start whether a header is there (0) or why not, and
  * bafirolen_header_position where it ends, or how many bytes are wanted. A host that wants the fields calls
- * bafirolen_read_header_body; one that has a commitment policy, a function of bafirolen_policy.h in its place.
+ * bafirolen_read_header_body; one that has a commitment policy, a function of bafirolen_policy.h in its place. bafirolen_fetch.h
+ * has the loop for a header that comes in pieces, as from a pipe.
  *
  * LENDING. A pointer and a length together are one lent part: `const uint8_t *message, size_t message_len`. The length counts
  * elements: bytes of a message, numbers of a table (`sizeof table` counts bytes: lend sizeof table / sizeof *table). A part of
@@ -45,6 +46,7 @@
 #include <stddef.h>
 #include <stdint.h>
 
+#include "bafirolen_fetch.h"
 #include "bafirolen_policy.h"
 #include "bafirolen_records.h"
 #include "bafirolen_refusals.h"

@@ -4,11 +4,10 @@
  *
  * WHAT TO DO WITH A REFUSAL.
  *
- * BAFIROLEN_REFUSED_SHORTAGE: fetch more, until the message has at least `position` bytes, and call again; with fewer the answer
- * is the same. `position` is the end of the next field only, and each call reads from `start` again: fetch what is at hand, or
- * twice as much, rather than just up to it. If no more will come, or `position` is above 4,294,967,295, reject the message. Set a
- * limit: lengths in a message may claim what never comes. No part of a context is waited for past its section: where it claims to
- * end there, the message is damaged, and is refused by 32 as soon as the section is there.
+ * BAFIROLEN_REFUSED_SHORTAGE: fetch until the message has at least `position` bytes, the end of the next field, and call again;
+ * bafirolen_fetch.h has the loop, and what is promised meanwhile. If no more will come, or `position` is above 4,294,967,295,
+ * reject the message. Set a limit: lengths in a message may claim what never comes. No part of a context is waited for past its
+ * section: where it claims to end there, the message is damaged, and is refused by 32 as soon as the section is there.
  *
  * BAFIROLEN_REFUSED_PAIR_TABLE_TOO_SHORT, .._KEY_TABLE_TOO_SHORT, .._OUTPUT_TOO_SHORT: lend more, and call again. The answer does
  * not say how much: lend twice as much, or a table of BAFIROLEN_LARGEST_PAIR_TABLE or BAFIROLEN_LARGEST_KEY_TABLE numbers, or of

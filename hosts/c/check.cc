@@ -2,8 +2,8 @@
  * A host in C++: bafirolen.h is included twice, what is empty is lent as an empty vector has it; header H is read, its pairs and
  * keys are gone through, it is measured and written again, as is one with an empty context in the old form, and what is
  * authenticated of its context is written alone; without its key it is refused, and under a policy it is read, measured and
- * written, or refused; frames are read, gone through, measured and written again. Writes `compared N cases`; a difference is
- * written to standard error, and the exit status is 1.
+ * written, or refused; it is fetched from a stream; frames are read, gone through, measured and written again. Writes `compared N
+ * cases`; a difference is written to standard error, and the exit status is 1.
  *
  *     rt staticlib bafirolen_c
  *     g++ -std=c++11 -O2 -Wall -Wextra -Wpedantic -Iinclude hosts/c/check.cc target/staticlib/libbafirolen_c.a -o target/check
@@ -13,6 +13,7 @@
 
 #include <iostream>
 #include <map>
+#include <sstream>
 #include <string>
 #include <vector>
 
@@ -160,6 +161,28 @@ void policies()
     }
 }
 
+/* H from a stream that goes on behind it, into a vector that is as long as what was wanted */
+void fetched()
+{
+    std::istringstream stream(std::string(H.begin(), H.end()) + "behind");
+    Table pairs(BAFIROLEN_NUMBERS_PER_PAIR), keys(BAFIROLEN_NUMBERS_PER_KEY);
+    Bytes message;
+    uint64_t rounds = 0;
+    BafirolenBody b = read(message, pairs, keys);
+    while (b.number == BAFIROLEN_REFUSED_SHORTAGE && stream) {
+        const size_t held = message.size();
+        message.resize(b.position);
+        stream.read(reinterpret_cast<char *>(&message[held]), std::streamsize(b.position - held));
+        rounds++;
+        b = read(message, pairs, keys);
+    }
+    same("what was fetched", b.number == 0 && b.tail == H.size() && message == H, true);
+    same("its rounds", rounds, BAFIROLEN_MOST_ROUNDS(b.keyCount));
+    std::string behind;
+    same("what is behind it", std::getline(stream, behind) && behind == "behind", true);
+    same("the rounds of frames", BAFIROLEN_MOST_FRAME_ROUNDS(3), 14u);
+}
+
 /* what an empty vector gives for a pointer may be null */
 void empty_vectors()
 {
@@ -262,6 +285,7 @@ int main()
     only_authenticated();
     no_key();
     policies();
+    fetched();
     empty_vectors();
     frames();
     std::cout << "compared " << cases << " cases\n" << std::flush;

@@ -102,51 +102,21 @@
 //! Its [`remedy`](Refusal::remedy) says what a caller does:
 //!
 //! - [`Remedy::Wait`] (2): the message breaks off. Fetch until it has at least
-//!   that many bytes, and ask again; if no more will come, reject it.
+//!   that many bytes, and ask again, as [`fetch`] does; if no more will come,
+//!   reject it.
 //! - [`Remedy::LendMore`] (22, 23, 28): a table or the output is too short.
 //!   Lend a longer one, and ask again. No body and no frames are refused so
 //!   whose output has the length that [`header_body_len`] or [`frames_len`] gave.
 //! - [`Remedy::Reject`] (all others): no bytes and no room change the answer.
 //!
-//! What is accepted borrows the message, so a message that grows is asked
-//! about first, and read once it is whole:
-//!
-//! ```
-//! use bafirolen::{read_header_body, Refusal, Remedy, Request};
-//!
-//! /// Appends what has come since, and says whether anything has.
-//! fn fetch(message: &mut Vec<u8>) -> bool {
-//! #   message.extend([0; 4]);
-//! #   message.len() < 64
-//! }
-//!
-//! /// Fetches until the header is there or is refused. Gives up where it needs
-//! /// more than `limit` bytes.
-//! fn fetched(message: &mut Vec<u8>, limit: u64) -> Result<(), Refusal> {
-//!     let (mut pairs, mut keys) = ([0; 40], [0; 60]);
-//!     loop {
-//!         let read = read_header_body(message, 0, Request::default(), &mut pairs, &mut keys);
-//!         let Err(refusal) = read.map(|_| ()) else {
-//!             return Ok(());
-//!         };
-//!         match refusal.remedy() {
-//!             Remedy::Wait { position } if position <= limit => {
-//!                 if !fetch(message) {
-//!                     return Err(refusal);
-//!                 }
-//!             }
-//!             _ => return Err(refusal),
-//!         }
-//!     }
-//! }
-//! # let mut message = vec![1, 0x80, 1, 0x78];
-//! # assert_eq!(fetched(&mut message, 1 << 20), Err(Refusal::NoEncryptedDataKey));
-//! # let mut message = vec![1, 0x80, 1, 0x78];
-//! # assert_eq!(fetched(&mut message, 10), Err(Refusal::Shortage { position: 20 }));
-//! ```
-//!
 //! The functions say under 'Errors' which refusals they answer, in the order
 //! of their tests: of several that apply, the first is answered.
+//!
+//! # Fetching
+//!
+//! [`fetch`] has a source give the bytes of a message, such as those of a pipe,
+//! until a reader accepts or refuses them, and none behind what it reads. Its
+//! docs say how far an answer to the first bytes of a message may be trusted.
 //!
 //! # Safety, stack and platform
 //!
@@ -179,6 +149,7 @@ mod body;
 mod body_len;
 mod constants;
 mod draft;
+mod fetching;
 mod finding;
 mod form;
 mod frame_writes;
@@ -202,6 +173,7 @@ pub use body_len::header_body_len;
 pub use body_len::header_body_to_vec;
 pub use constants::*;
 pub use draft::{Draft, Numbers};
+pub use fetching::{fetch, most_frame_rounds, most_rounds, Fetched};
 pub use finding::{copy_value, find_bytes, find_part, find_value};
 pub use form::Form;
 #[cfg(feature = "alloc")]

@@ -20,16 +20,15 @@
 #[must_use]
 pub enum Remedy {
     /// 2: fetch until the message has at least `position` bytes, then ask
-    /// again. As long as it has fewer, the answer is the same. If the message
-    /// is whole already, it is rejected.
+    /// again, as [`fetch`](crate::fetch) does. As long as it has fewer, the
+    /// answer is the same. If the message is whole already, it is rejected.
     ///
-    /// `position` is the end of the next field only, and each call reads from
-    /// the start again: fetch what is at hand, or twice as much, rather than
-    /// just up to it. With that many bytes the answer may be another refusal,
-    /// a further shortage among them. Set a limit: lengths in a message may
-    /// claim what never comes; and a message above 4,294,967,295 bytes is
-    /// refused by 1. No part of a context is waited for past its section: one
-    /// that is said to end there is refused by 32, and not mended by any byte.
+    /// `position` is the end of the next field only. With that many bytes the
+    /// answer may be another refusal, a shortage further on among them. Set a
+    /// limit: lengths in a message may claim what never comes; and a message
+    /// above 4,294,967,295 bytes is refused by 1. No part of a context is
+    /// waited for past its section: one that is said to end there is refused by
+    /// 32, and not mended by any byte.
     Wait {
         /// How many bytes the message would have to have.
         position: u64,

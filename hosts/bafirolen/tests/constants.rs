@@ -3,20 +3,25 @@
 use bafirolen::*;
 
 const POLICIES: &str = include_str!("../../../include/bafirolen_policy.h");
-const HEADERS: [&str; 3] = [
+const HEADERS: [&str; 4] = [
     include_str!("../../../include/bafirolen.h"),
+    include_str!("../../../include/bafirolen_fetch.h"),
     include_str!("../../../include/bafirolen_records.h"),
     POLICIES,
 ];
 
-/// The value that a header defines the name by: a number, or a product of a
-/// name and a number.
-fn defined(name: &str) -> usize {
+/// What a header defines the name by.
+fn text(name: &str) -> &'static str {
     let head = format!("#define BAFIROLEN_{name} ");
     let mut lines = HEADERS.iter().flat_map(|header| header.lines());
     let line = lines.find_map(|line| line.strip_prefix(&head));
     let value = line.unwrap_or_else(|| panic!("no {name}"));
-    let value = value.split("/*").next().unwrap_or_default().trim();
+    value.split("/*").next().unwrap_or_default().trim()
+}
+
+/// The value of that: a number, or a product of a name and a number.
+fn defined(name: &str) -> usize {
+    let value = text(name);
     let product = value
         .trim_matches(['(', ')'])
         .strip_prefix("BAFIROLEN_")
@@ -30,13 +35,13 @@ fn defined(name: &str) -> usize {
     }
 }
 
-/// How many names the headers give a value to; an include guard has none.
-fn defined_names() -> usize {
+/// The names that the headers define, each with its parameter if it has one; an
+/// include guard has no value, and is left out.
+fn names() -> impl Iterator<Item = &'static str> {
     let lines = HEADERS.iter().flat_map(|header| header.lines());
     lines
-        .filter_map(|line| line.strip_prefix("#define BAFIROLEN_"))
-        .filter(|rest| rest.split_once(' ').is_some())
-        .count()
+        .filter_map(|line| line.strip_prefix("#define BAFIROLEN_")?.split_once(' '))
+        .map(|(name, _)| name)
 }
 
 #[test]
@@ -65,9 +70,26 @@ fn are_those_of_c() {
     for (name, value) in constants {
         assert_eq!(value, defined(name), "{name}");
     }
-    let names: std::collections::BTreeSet<&str> = constants.iter().map(|row| row.0).collect();
-    assert_eq!(names.len(), constants.len(), "a name in two rows");
-    assert_eq!(names.len(), defined_names(), "names that C has");
+    let of_c = names().filter(|name| !name.contains('('));
+    let of_c: std::collections::BTreeSet<&str> = of_c.collect();
+    let rows: std::collections::BTreeSet<&str> = constants.iter().map(|row| row.0).collect();
+    assert_eq!(rows.len(), constants.len(), "a name in two rows");
+    assert_eq!(rows, of_c, "names that C has");
+}
+
+/// A sum of a number, and another for each item.
+#[test]
+fn rounds_are_those_of_c() {
+    let numbers = |name: &str| -> Vec<u64> {
+        let words = text(name).split(['(', ' ']);
+        words.filter_map(|word| word.parse().ok()).collect()
+    };
+    let rounds = numbers("MOST_ROUNDS(keys)");
+    assert_eq!(rounds, [most_rounds(0), most_rounds(1) - most_rounds(0)]);
+    // The final frame is one of them, and has the first number.
+    let (one, two) = (most_frame_rounds(1), most_frame_rounds(2));
+    assert_eq!(numbers("MOST_FRAME_ROUNDS(frames)")[..2], [one, two - one]);
+    assert_eq!(names().filter(|name| name.contains('(')).count(), 2);
 }
 
 /// The declarations have the numbers, and the wrapper an enum for them.

@@ -4,21 +4,13 @@
 mod common;
 
 use bafirolen::*;
-use common::H;
+use common::{header_of, H};
 
 const REFUSED: Refusal = Refusal::NoEncryptedDataKey;
 
-/// A header of a version with H's front and back, this context section and no
-/// key.
+/// A header with this context section and no key.
 fn keyless(version: u8, context: &[u8]) -> Vec<u8> {
-    match version {
-        1 => [&H[..20], context, &[0, 0], &H[48..]].concat(),
-        _ => {
-            let front = [&[2, 0x05, 0x78], &H[..32]].concat();
-            let back = [&H[48..49], &H[54..], &H[..32]].concat();
-            [&front, context, &[0, 0], &back].concat()
-        }
-    }
+    header_of(version, context, &[0, 0])
 }
 
 /// The answer to a request of a message at a start, with tables that keep what

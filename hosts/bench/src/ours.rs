@@ -131,6 +131,14 @@ pub fn read_body(message: &[u8], pairs: &mut [u32], keys: &mut [u32]) -> u64 {
     )
 }
 
+/// Of a front of a message: the tail, or number and position of the refusal.
+#[inline]
+pub fn read_front(front: &[u8], pairs: &mut [u32], keys: &mut [u32]) -> Result<u64, (u32, u64)> {
+    bafirolen::read_header_body(front, 0, Request::default(), pairs, keys)
+        .map(|body| body.tail)
+        .map_err(|refusal| (refusal.number(), refusal.position()))
+}
+
 #[inline]
 pub fn read_body_under(policy: Policy, message: &[u8], pairs: &mut [u32], keys: &mut [u32]) -> u64 {
     let request = Request::default().under(policy);

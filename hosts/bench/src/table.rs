@@ -11,7 +11,7 @@ pub struct Table {
 impl Table {
     pub fn begin() -> Table {
         println!(
-            "| {:<48} | {:<19} | {:>11} | {:>11} | {:>5} | {:<14} |",
+            "| {:<48} | {:<22} | {:>11} | {:>11} | {:>5} | {:<14} |",
             "what", "against", "ours, ns", "theirs, ns", "ratio", "nine of ten"
         );
         println!("|---|---|---:|---:|---:|---|");
@@ -23,7 +23,7 @@ impl Table {
         let [ours, theirs] = [times.ours, times.theirs].map(nanoseconds);
         let spread = format!("{low:.2} to {high:.2}");
         println!(
-            "| {what:<48} | {against:<19} | {ours:>11} | {theirs:>11} | {ratio:>5.2} | {spread:<14} |"
+            "| {what:<48} | {against:<22} | {ours:>11} | {theirs:>11} | {ratio:>5.2} | {spread:<14} |"
         );
         self.rows += 1;
         // As printed, so that the last line agrees with the rows.

@@ -94,6 +94,14 @@ pub fn read_body(message: &[u8], pairs: &mut [u32], keys: &mut [u32]) -> u64 {
 }
 
 #[inline]
+pub fn read_front(front: &[u8], pairs: &mut [u32], keys: &mut [u32]) -> Result<u64, (u32, u64)> {
+    let (which, mode) = (Which::Either, Mode::Tolerant);
+    reference::read_header_body(front, 0, which, mode, None, pairs, keys)
+        .map(|body| body.tail)
+        .map_err(|refusal| (refusal.number, refusal.position))
+}
+
+#[inline]
 pub fn read_body_under(policy: Policy, message: &[u8], pairs: &mut [u32], keys: &mut [u32]) -> u64 {
     let request = Request {
         which: Which::Either,

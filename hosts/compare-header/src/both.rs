@@ -18,7 +18,7 @@ fn row<T, R>(answer: Answer<T>, accepted: impl FnOnce(T) -> R) -> Result<R, Refu
     answer.map(accepted).map_err(|_| refused)
 }
 
-fn mode(strict: bool) -> Mode {
+pub(crate) fn mode(strict: bool) -> Mode {
     if strict {
         Mode::Strict
     } else {
@@ -26,11 +26,21 @@ fn mode(strict: bool) -> Mode {
     }
 }
 
-fn which(version: u32) -> Which {
+pub(crate) fn which(version: u32) -> Which {
     match version {
         0 => Which::Either,
         1 => Which::V1Only,
         _ => Which::V2Only,
+    }
+}
+
+/// A row's request in the numbers that cross.
+pub(crate) fn crossed(asked: Asked) -> crossing::Asked {
+    crossing::Asked {
+        which: asked.version,
+        mode: asked.strict.into(),
+        has_max: asked.max.is_some().into(),
+        max: asked.max.unwrap_or(0),
     }
 }
 
@@ -132,15 +142,9 @@ impl Codec for Both {
         pairs: &mut [u32],
         keys: &mut [u32],
     ) -> Result<Body, Refused> {
-        let numbers = crossing::Asked {
-            which: asked.version,
-            mode: asked.strict.into(),
-            has_max: asked.max.is_some().into(),
-            max: asked.max.unwrap_or(0),
-        };
         let message = (message, asked.start);
         let (record, tables) =
-            under_policy::read_header_body(policy, message, numbers, pairs, keys);
+            under_policy::read_header_body(policy, message, crossed(asked), pairs, keys);
         pairs.copy_from_slice(&tables.pairs);
         keys.copy_from_slice(&tables.keys);
         read(record)

@@ -10,6 +10,9 @@
 //! `under_policy` does the same with bodies under a policy, by its number, and
 //! with the records as they cross: a wrapper has no unknown policy. For that
 //! `crossing`, and nothing else here, is unsafe.
+//!
+//! `fetched` asks one request to read of longer and longer fronts of a message,
+//! and holds the answers to what the shorter ones promise of the longer.
 #![deny(unsafe_code)]
 
 pub mod answers;
@@ -17,6 +20,7 @@ pub mod both;
 pub mod crossing;
 pub mod every;
 pub mod expected;
+pub mod fetched;
 pub mod guarded;
 pub mod kept;
 pub mod lengths;

@@ -101,6 +101,7 @@ pub fn read_encrypted_data_keys_section(
 }
 
 /// Both tables of a body.
+#[derive(Debug, PartialEq, Eq)]
 pub struct Tables {
     pub pairs: Vec<u32>,
     pub keys: Vec<u32>,

@@ -27,3 +27,9 @@ fn asked() -> u64 {
 pub fn seeds(count: u64) -> Range<u64> {
     0..(u128::from(count) * u128::from(asked()) / u128::from(BY_DEFAULT)) as u64
 }
+
+/// The same, but no fewer than by default: for requests that are so few that
+/// each refusal only just comes about.
+pub fn no_fewer(count: u64) -> Range<u64> {
+    0..seeds(count).end.max(count)
+}

@@ -1,4 +1,10 @@
-//! A message of which every byte is known.
+//! A message of which every byte is known, others like it, and a source that
+//! gives a message in pieces.
+
+// Not every test uses all of it.
+#![allow(dead_code)]
+
+use std::convert::Infallible;
 
 /// Header H of document 01.
 pub const H: &[u8; 58] = b"\x01\x80\x01\x78\
@@ -6,3 +12,52 @@ pub const H: &[u8; 58] = b"\x01\x80\x01\x78\
     \x00\x0C\x00\x01\x00\x04lang\x00\x02cy\
     \x00\x01\x00\x02p1\x00\x01a\x00\x03\xAA\xBB\xCC\
     \x02\x00\x00\x00\x00\x0C\x00\x00\x10\x00";
+
+/// A header of a version with H's front and back, and these two sections.
+pub fn header_of(version: u8, context: &[u8], keys: &[u8]) -> Vec<u8> {
+    match version {
+        1 => [&H[..20], context, keys, &H[48..]].concat(),
+        _ => {
+            let front = [&[2, 0x05, 0x78], &H[..32]].concat();
+            let back = [&H[48..49], &H[54..], &H[..32]].concat();
+            [&front, context, keys, &back].concat()
+        }
+    }
+}
+
+/// Gives a message from a place on, in pieces of at most these lengths by turns.
+pub struct Source<'m> {
+    message: &'m [u8],
+    pieces: &'m [usize],
+    /// How many bytes were given.
+    pub given: usize,
+    /// The end of the farthest byte that was asked for.
+    pub asked: usize,
+    /// How often it was asked.
+    pub calls: usize,
+}
+
+impl<'m> Source<'m> {
+    pub fn new(message: &'m [u8], given: usize, pieces: &'m [usize]) -> Source<'m> {
+        let (asked, calls) = (given, 0);
+        Source {
+            message,
+            pieces,
+            given,
+            asked,
+            calls,
+        }
+    }
+
+    pub fn more(&mut self, room: &mut [u8]) -> Result<usize, Infallible> {
+        assert!(!room.is_empty(), "asked for nothing");
+        self.asked = self.asked.max(self.given + room.len());
+        let rest = &self.message[self.given..];
+        let piece = self.pieces[self.calls % self.pieces.len()];
+        let length = room.len().min(piece).min(rest.len());
+        room[..length].copy_from_slice(&rest[..length]);
+        self.given += length;
+        self.calls += 1;
+        Ok(length)
+    }
+}

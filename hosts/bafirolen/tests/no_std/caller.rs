@@ -3,14 +3,32 @@
 //! has no allocator, so that it links only without the feature `alloc`.
 #![no_std]
 
-use bafirolen::{frames_len, header_body_len, read_header_body, write_frames, write_header_body};
+use bafirolen::{
+    fetch, frames_len, header_body_len, read_header_body, write_frames, write_header_body,
+};
 use bafirolen::{Draft, Refusal, Request};
+use core::convert::Infallible;
 
 /// How many pairs the header at the message's front has.
 pub fn count_pairs(message: &[u8]) -> Result<usize, Refusal> {
     let (mut pairs, mut keys) = ([0; 40], [0; 60]);
     let body = read_header_body(message, 0, Request::default(), &mut pairs, &mut keys)?;
     Ok(body.pairs().len())
+}
+
+/// Fetches the header at the front of a source into a room, and gives the part
+/// of the room that it fills. The source keeps what stands behind it.
+pub fn fetch_front<'r>(source: &mut &[u8], room: &'r mut [u8]) -> Result<&'r [u8], Refusal> {
+    let ask = |message: &[u8]| count_pairs(message).map(|_| ());
+    let more = |wanted: &mut [u8]| {
+        let (piece, rest) = source.split_at(wanted.len().min(source.len()));
+        wanted[..piece.len()].copy_from_slice(piece);
+        *source = rest;
+        Ok::<usize, Infallible>(piece.len())
+    };
+    let Ok(fetched) = fetch(room, 0, ask, more);
+    fetched.answer?;
+    Ok(&room[..fetched.held])
 }
 
 /// Writes the body of a draft to the front of a room, and gives that front. A

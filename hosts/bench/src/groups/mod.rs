@@ -2,6 +2,7 @@
 
 mod bodies;
 mod context;
+mod fetch;
 mod frames;
 mod frames_written;
 mod keys;
@@ -46,6 +47,11 @@ pub const GROUPS: &[Group] = &[
         "policies",
         "header bodies read and written under a policy",
         policies::rows,
+    ),
+    (
+        "fetch",
+        "header bodies read again after each fetch of what is wanted",
+        fetch::rows,
     ),
     (
         "frames",

@@ -2,6 +2,7 @@
 #![allow(dead_code)]
 
 pub mod codec;
+pub mod fronts;
 pub mod plain;
 pub mod plain_writes;
 
