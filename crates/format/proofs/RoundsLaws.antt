@@ -36,7 +36,7 @@ places-behind next (more-needed p) = []
 places-behind next (error k) = []
 
 module _ {A B : Type 0} where
-  pub covers-both : (r : Reader A) (f : A → Reader B) (places : List ℕ → ℕ → List ℕ) (next : A → List ℕ → ℕ → List ℕ) → Steady r → Covers places r → ((a : A) → Covers (next a) (f a))
+  covers-both : (r : Reader A) (f : A → Reader B) (places : List ℕ → ℕ → List ℕ) (next : A → List ℕ → ℕ → List ℕ) → Steady r → Covers places r → ((a : A) → Covers (next a) (f a))
       → Covers (λ l s. places l s ++ places-behind next (r l s)) (r >>= f)
   unfolding _>>=_
   covers-both r f places next hs hr hf l e s = go (r l s) (r (l ++ e) s) (hs .grows l e s) (hr l e s)
@@ -147,7 +147,7 @@ pub test-valued : {A : Type 0} {value : A → ℕ} (k : ℕ) (b : Bool) {q : Rea
 test-valued k b {q} h = record { places = h .places; covers = test-covers k b q (h .places) (h .covers); few = λ l s a l′ t e. h .few l s a l′ t (un-test k b q l s a l′ t e) }
 
 module _ {A B : Type 0} {v : A → ℕ} {w : A → B → ℕ} (value : B → ℕ) {r : Reader A} {f : A → Reader B} where
-  unfoldable pub bind-valued : Steady r → Valued v r → ((a : A) → Valued (w a) (f a)) → ((a : A) → Gives (λ c. v a + w a c ≤ value c) (f a)) → Valued value (r >>= f)
+  pub bind-valued : Steady r → Valued v r → ((a : A) → Valued (w a) (f a)) → ((a : A) → Gives (λ c. v a + w a c ≤ value c) (f a)) → Valued value (r >>= f)
   unfolding _>>=_
   bind-valued hs hr hf fits =
       record {

@@ -124,7 +124,7 @@ unfolding with-mark
 mark-steady {r} h =
     record { grows = λ l e s. goes-on (mark s) (λ ps. record { grows = λ l e t. (refl, refl, omega arith) }) e s (s + length l) (r l s) (r (l ++ e) s) (h .grows l e s) }
 
-pub after-context-steady : (q : Request) (o : Opening) (x : ContextAt) → Steady (after-context q o x)
+after-context-steady : (q : Request) (o : Opening) (x : ContextAt) → Steady (after-context q o x)
 unfolding after-context after-keys
 after-context-steady q o x = search (steady, keys-steady, closing-steady) depth 20
 

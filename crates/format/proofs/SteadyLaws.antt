@@ -76,7 +76,7 @@ unfolding held
 held-steady e n = record { grows = λ l e s. test-steady 32 _ .grows l e s }
 
 -- a reader that wants n bytes before all else: where they are there, it goes on steadily, and ends behind them
-pub needs-steady : {A : Type 0} (n : ℕ) {r : Reader A} → ((l : List ℕ) (s : ℕ) → length l < n → r l s ≡ more-needed (s + n))
+needs-steady : {A : Type 0} (n : ℕ) {r : Reader A} → ((l : List ℕ) (s : ℕ) → length l < n → r l s ≡ more-needed (s + n))
     → ((l e : List ℕ) (s : ℕ) → n ≤ length l → Grows e s (s + length l) (r l s) (r (l ++ e) s)) → ((l : List ℕ) (s : ℕ) → n ≤ length l → Reaches (s + n) (r l s)) → Steady r
 needs-steady n {r} short fits ends = record { grows = λ l e s. go l e s (leb n (length l)) refl }
   where

@@ -127,7 +127,7 @@ closing-wants : (v1 : Bool) → Header Any (read-closing v1)
 unfolding read-closing
 closing-wants v1 = bind-wants content-wants (λ c g. closing-of-wants v1 c)
 
-pub after-context-wants : (q : Request) (o : Opening) (x : ContextAt) → Header Any (after-context q o x)
+after-context-wants : (q : Request) (o : Opening) (x : ContextAt) → Header Any (after-context q o x)
 unfolding after-context after-keys
 after-context-wants q o x =
     bind-wants (keys-wants (q .max)) (λ ks g. bind-wants (closing-wants (eqb (o .version) 1)) (λ c g.

@@ -1,22 +1,21 @@
 -- The frame reader's promise, from its contract and the laws of frames. Assumes nothing.
 use Prim.Native.Nat.{ℕ, suc, _+_, _*_}
-use native.Mathlib.Omega.{arith}
-use mathlib.Core.Path.{_≡_, refl, sym, ap, ap₂, _∙_}
+use mathlib.Core.Path.{_≡_, sym, ap, ap₂, _∙_}
 use mathlib.Core.List.{List, map}
 use lib.ListN.{length, drop, length-map}
 use lib.Seq.{drop-append-seam}
-use Rattle.format.specs.Read.{Answer, accepted, refused, operation}
+use Rattle.format.specs.Read.{Answer, accepted, operation}
 use Rattle.format.specs.Serialize.{Bytes, images}
 use Rattle.format.specs.Frames.{Frame, FrameAt, frame-of, frame-places, write-frames, read-frames-into}
 use Rattle.format.specs.Lent.{frame-numbers, filled, table-after}
 use Rattle.format.specs.Demand3.{Held, Each}
 use Rattle.format.proofs.FrameLaws.{frame-laws}
 use Rattle.format.proofs.Filled.{frame-numbers-long, frame-table}
-use Rattle.wire.specs.Codes.{because}
 use Rattle.wire.specs.declared.Refusal.{Refusal}
 use Rattle.frames.specs.Codes.{frames-of}
 use Rattle.frames.specs.declared.FramesAnswer.the-variants.{Accepted, Refused}
 use Rattle.promises.specs.Frames.{Call, Meets, GivesFrames, Promise, FramesPromises}
+use Rattle.promises.proofs.Listed.{back-frames, accepted-frames}
 
 module _ (c : Call) (hb : Bytes (c .message)) (meets : Meets c) where
   abbrev o : Answer (List FrameAt)
@@ -34,25 +33,23 @@ module _ (c : Call) (hb : Bytes (c .message)) (meets : Meets c) where
         beyond = rw (six, after) (drop-append-seam (frame-numbers places) (drop (length (frame-numbers places)) (c .before)));
       }
 
-  -- an answer that accepts is the definition's
-  pub got : (n t : ℕ) → c .answer ≡ Accepted n t → (x : Answer (List FrameAt)) → o ≡ x → (places : List FrameAt) × (o ≡ accepted places t) × (length places ≡ n)
-  got n t a (accepted places u) e = let z : Accepted (length places) u ≡ Accepted n t = sym (meets .answer ∙ ap frames-of e) ∙ a in let p : u ≡ t = cc in (places, e ∙ ap (accepted places) p, cc)
-  got n t a (refused k p) e = let z : Refused (because k p) ≡ Accepted n t = sym (meets .answer ∙ ap frames-of e) ∙ a in let w : _≡_ {A = ℕ} 0 1 = cc in absurd (omega arith)
+  -- an answer that accepts is the definition's, and so is one that refuses
+  pub got : (n t : ℕ) → c .answer ≡ Accepted n t → (places : List FrameAt) × (o ≡ accepted places t) × (length places ≡ n)
+  got n t a = accepted-frames o n t (sym (meets .answer) ∙ a)
 
-  kept : (q : Refusal) → c .answer ≡ Refused q → (x : Answer (List FrameAt)) → o ≡ x → c .after ≡ c .before
-  kept q a (accepted places u) e = let z : Accepted (length places) u ≡ Refused q = sym (meets .answer ∙ ap frames-of e) ∙ a in let w : _≡_ {A = ℕ} 0 1 = cc in absurd (omega arith)
-  kept q a (refused k p) e = meets .table ∙ ap (λ (x : Answer (List FrameAt)). table-after frame-numbers x (c .before)) e
+  kept : (q : Refusal) → c .answer ≡ Refused q → c .after ≡ c .before
+  kept q a = meets .table ∙ ap (λ (x : Answer (List FrameAt)). table-after frame-numbers x (c .before)) (back-frames o q (sym (meets .answer) ∙ a))
 
   promise : Promise c
   promise =
       let law = frame-laws .frames (c .frame) (length (c .before)) (c .message) (c .start) hb in
       record {
-        only = λ n t a. let (places, e, long) = got n t a o refl in let (stand, tail, held) = law .only places t e in (map frame-of places, stand, gives places t e tail held);
+        only = λ n t a. let (places, e, long) = got n t a in let (stand, tail, held) = law .only places t e in (map frame-of places, stand, gives places t e tail held);
         all = λ fits fs stand.
             let (places, e, same, held) = law .all fits fs stand in
             rw same at (gives places (c .start + length (write-frames fs)) e (ap (λ (l : List Frame). c .start + length (write-frames l)) (sym same)) held);
-        how-many = λ n t a. let (places, e, long) = got (suc n) t a o refl in law .how-many places t e n long;
-        keeps = λ q a. kept q a o refl;
+        how-many = λ n t a. let (places, e, long) = got (suc n) t a in law .how-many places t e n long;
+        keeps = kept;
       }
 
 pub frames-promises : FramesPromises

@@ -54,7 +54,7 @@ module _ (c : Call) (hb : Bytes (c .message)) (meets : Meets c) (n t : ℕ) (a :
 
   again : Again
   again =
-      let (places, e, long) = got c hb meets n t a _ refl in
+      let (places, e, long) = got c hb meets n t a in
       let after : c .after ≡ filled (frame-numbers places) (c .before) = meets .table ∙ ap (λ (x : Answer (List FrameAt)). table-after frame-numbers x (c .before)) e in
       let table : w .table ≡ take (6 * length places) (filled (frame-numbers places) (c .before)) = hands .table ∙ ap₂ (λ (k : ℕ) (l : List ℕ). take (6 * k) l) (sym long) after in
       record { places = places; read = e; many = long; handed = same (hands .frame) (hands .text) table }

@@ -58,6 +58,15 @@ pub back-frames : (o : Answer (List FrameAt)) (q : Refusal) → frames-of o ≡ 
 back-frames (accepted fs t) q e = let z : _≡_ {A = ℕ} 0 1 = cc in absurd (omega arith)
 back-frames (refused k p) q e = let z : because k p ≡ q = cc in rw (← z) refl
 
+-- and what it accepts, by how many there are
+pub accepted-keys : (o : Answer (List EncryptedDataKeyAt)) (n t : ℕ) → keys-of o ≡ keys.Accepted n t → (ks : List EncryptedDataKeyAt) × (o ≡ accepted ks t) × (length ks ≡ n)
+accepted-keys (accepted ks u) n t e = (ks, ap (accepted ks) (cc), cc)
+accepted-keys (refused k p) n t e = let z : _≡_ {A = ℕ} 0 1 = cc in absurd (omega arith)
+
+pub accepted-frames : (o : Answer (List FrameAt)) (n t : ℕ) → frames-of o ≡ frames.Accepted n t → (fs : List FrameAt) × (o ≡ accepted fs t) × (length fs ≡ n)
+accepted-frames (accepted fs u) n t e = (fs, ap (accepted fs) (cc), cc)
+accepted-frames (refused k p) n t e = let z : _≡_ {A = ℕ} 0 1 = cc in absurd (omega arith)
+
 auth-by-first : {r : Reader HeaderAuth} {list : List ℕ → ℕ → List Line} {here : List ℕ → ℕ → HeaderAuth} {end : List ℕ → ℕ → ℕ} {m : List ℕ} {s : ℕ} → FirstRefusal r list here end m s
     → (x : AuthRead) → x ≡ auth-of (operation r m s) → AuthByFirst (operation-list list m s) (auth-of (accepted (here m s) (end m s))) x
 auth-by-first {r} {list} {here} {end} {m} {s} law x e =

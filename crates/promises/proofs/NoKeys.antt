@@ -5,9 +5,8 @@ use mathlib.Core.Path.{_≡_, refl, sym, ap, _∙_}
 use mathlib.Core.Option.{Option, none, some}
 use mathlib.Core.List.{List, [], _∷_, _++_}
 use lib.ListN.{length}
-use Rattle.format.specs.Read.{Answer, accepted, refused, operation}
+use Rattle.format.specs.Read.{accepted, operation}
 use Rattle.format.specs.Serialize.{Bytes}
-use Rattle.format.specs.Fields.{EncryptedDataKeyAt}
 use Rattle.format.specs.Context.{Mode, tolerant}
 use Rattle.format.specs.Keys.{Max, read-encrypted-data-keys-section-into}
 use Rattle.format.specs.Body.{Which, either}
@@ -27,6 +26,7 @@ use Rattle.body_reader.specs.declared.HeaderBodyAnswer.the-variants.{Accepted}
 use Rattle.promises.specs.Reader.{Call, reading, Meets}
 use Rattle.promises.specs.Writer.{fields, mark}
 use Rattle.promises.specs.NoKeys.{NoKeysPromises}
+use Rattle.promises.proofs.Listed.{accepted-keys}
 use Rattle.promises.proofs.Reader.{accepts, refuses, record-is, accepted-is}
 use Rattle.promises.proofs.Writer.{sentence-4, by-checks}
 
@@ -43,13 +43,9 @@ body-read which mode max m s c hb call x tail e none-there =
 
 section-read : (max : Max) (room : ℕ) (m : List ℕ) (s : ℕ) → Bytes m → (before after : List ℕ) (r : KeysAnswer)
     → Reads keys-of key-numbers (operation (read-encrypted-data-keys-section-into max room) m s) before after r → (n tail : ℕ) → r ≡ keys.Accepted n tail → n ≡ 0 → ⊥
-section-read max room m s hb before after r call n tail e none-there = go (operation (read-encrypted-data-keys-section-into max room) m s) refl (sym (call .answer) ∙ e)
-  where
-    go : (o : Answer (List EncryptedDataKeyAt)) → operation (read-encrypted-data-keys-section-into max room) m s ≡ o → keys-of o ≡ keys.Accepted n tail → ⊥
-    go (accepted ks t) q f =
-        let count : length ks ≡ n = cc in
-        demand-3 .no-keys .no-section max room m s t hb (q ∙ ap (λ y. accepted y t) (empty ks (count ∙ none-there)))
-    go (refused k p) q f = let z : _≡_ {A = ℕ} 0 1 = cc in absurd (omega arith)
+section-read max room m s hb before after r call n tail e none-there =
+    let (ks, said, count) = accepted-keys (operation (read-encrypted-data-keys-section-into max room) m s) n tail (sym (call .answer) ∙ e) in
+    demand-3 .no-keys .no-section max room m s tail hb (said ∙ ap (λ y. accepted y tail) (empty ks (count ∙ none-there)))
 
 section-written : (text table before after : List ℕ) (r : WriteAnswer) → Writes (writing-encrypted-data-keys-section text table) before after r
     → (n : ℕ) → r ≡ Written n → keys-in text table ≡ [] → ⊥

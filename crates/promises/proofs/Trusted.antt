@@ -6,7 +6,6 @@ use mathlib.Core.List.{List, [], _∷_}
 use lib.ListN.{length, take}
 use Rattle.format.specs.Read.{Reader, Answer, accepted, refused, operation}
 use Rattle.format.specs.Serialize.{Bytes}
-use Rattle.format.specs.Fields.{EncryptedDataKeyAt}
 use Rattle.format.specs.Fields.{HeaderBody as BodyRead}
 use Rattle.format.specs.Shared.{by}
 use Rattle.format.specs.Context.{Mode, read-aad-section-into}
@@ -14,7 +13,6 @@ use Rattle.format.specs.Keys.{Max}
 use Rattle.format.specs.Policies.{Policy}
 use Rattle.format.specs.Body.{Which, tests-frames, request-under, read-header-body-under}
 use Rattle.format.specs.Auth.{HeaderAuth}
-use Rattle.format.specs.Frames.{FrameAt}
 use Rattle.format.specs.Lent.{table-after, pair-table-after, key-table-after, pair-numbers, key-numbers, frame-numbers}
 use Rattle.format.specs.Trusted.{TwoRuns, Trusted}
 use Rattle.format.specs.Fetched.{Rounds, NoMoreThan}
@@ -39,7 +37,7 @@ use Rattle.body_reader.specs.declared.HeaderBody.{HeaderBody}
 use Rattle.body_reader.specs.declared.HeaderBodyAnswer.the-variants as body
 use Rattle.promises.specs.Reader.{Call, reading-under, Meets}
 use Rattle.promises.specs.Trusted.{Left, left, BodyLeft, body-left, BodyTrusted, SaysShortage, Says, TrustedPromises}
-use Rattle.promises.proofs.Listed.{back-context, back-found, back-keys, back-written, back-frames}
+use Rattle.promises.proofs.Listed.{back-context, back-found, back-keys, back-written, back-frames, accepted-keys, accepted-frames}
 use Rattle.promises.proofs.Reader.{accepts, record-is, accepted-is, refused-is}
 
 -- carried by a function that takes only a shortage to a shortage
@@ -69,15 +67,6 @@ module _ {A R : Type 0} (code : Answer A → R) (numbers : A → List ℕ) (refu
 
   calls-say : (r : Reader A) (m : List ℕ) (s : ℕ) (before : List ℕ) (n p : ℕ) → Says code numbers refused-as r m s before n p → operation r (take n m) s ≡ refused 2 p
   calls-say r m s before n p (after, x, call, short) = back (operation r (take n m) s) (because 2 p) (sym (call .answer) ∙ short)
-
--- what a call accepts, by how many there are
-accepted-keys : (o : Answer (List EncryptedDataKeyAt)) (n t : ℕ) → keys.Accepted n t ≡ keys-of o → (ks : List EncryptedDataKeyAt) × (o ≡ accepted ks t) × (length ks ≡ n)
-accepted-keys (accepted ks u) n t e = (ks, ap (accepted ks) (cc), cc)
-accepted-keys (refused k p) n t e = let z : _≡_ {A = ℕ} 0 1 = cc in absurd (omega arith)
-
-accepted-frames : (o : Answer (List FrameAt)) (n t : ℕ) → frames.Accepted n t ≡ frames-of o → (fs : List FrameAt) × (o ≡ accepted fs t) × (length fs ≡ n)
-accepted-frames (accepted fs u) n t e = (fs, ap (accepted fs) (cc), cc)
-accepted-frames (refused k p) n t e = let z : _≡_ {A = ℕ} 0 1 = cc in absurd (omega arith)
 
 back-auth : (o : Answer HeaderAuth) (p : ℕ) → auth-of o ≡ auth-of (refused 2 p) → o ≡ refused 2 p
 back-auth (accepted a t) p e = let z : _≡_ {A = ℕ} 0 2 = ap (λ (x : AuthRead). x .number) e in absurd (omega arith)
@@ -150,9 +139,9 @@ trusted-promises =
           few-rounds .of-context mode (length before) m s n ps (rounds-as (length m) (calls-say context-of pair-numbers context.Refused back-context (λ p. refl) (read-aad-section-into mode (length before)) m s before) ps n h);
       context-there = λ mode m s before after r call h p e. whole-sections .of-context mode (length before) m s h p (back-context _ (because 2 p) (sym (call .answer) ∙ e));
       keys-rounds = λ max m s before after n t call k ps h.
-          let (ks, is, long) = accepted-keys _ n t (call .answer) in
+          let (ks, is, long) = accepted-keys _ n t (sym (call .answer)) in
           rw long at (few-rounds .of-keys max (length before) m s ks t is k ps (rounds-as (length m) (calls-say keys-of key-numbers keys.Refused back-keys (λ p. refl) _ m s before) ps k h));
       frames-rounds = λ frame m s before after n t call k ps h.
-          let (fs, is, long) = accepted-frames _ n t (call .answer) in
+          let (fs, is, long) = accepted-frames _ n t (sym (call .answer)) in
           rw long at (few-rounds .of-frames frame (length before) m s fs t is k ps (rounds-as (length m) (calls-say frames-of frame-numbers frames.Refused back-frames (λ p. refl) _ m s before) ps k h));
     }
