@@ -35,11 +35,12 @@ use Rattle.frames.specs.declared.FramesAnswer.{FramesAnswer}
 use Rattle.frames.specs.declared.FramesAnswer.the-variants as frames
 use Rattle.auth.specs.Codes.{auth-of}
 use Rattle.auth.specs.declared.AuthRead.{AuthRead}
-use Rattle.checks.specs.Answers.{write-answer-of}
+use Rattle.checks.specs.Answers.{write-answer-of, written-as}
 use Rattle.checks.specs.Answers.{Writes as Answers}
 use Rattle.checks.specs.declared.WriteAnswer.{WriteAnswer}
 use Rattle.checks.specs.declared.WriteAnswer.the-variants as write
-use Rattle.only_authenticated.specs.Codes.{written-as, whole}
+use Rattle.only_authenticated.specs.Codes.{whole}
+use Rattle.drafts.specs.Codes.{Mends}
 use Rattle.bafirolen_c.specs.declared.BafirolenSection.{BafirolenSection}
 use Rattle.bafirolen_c.specs.declared.BafirolenAuth.{BafirolenAuth}
 use Rattle.bafirolen_c.specs.declared.BafirolenPlace.{BafirolenPlace}
@@ -169,3 +170,6 @@ image-as (refused k p) = refl
 
 pub image-crosses : (o : Answer (List ℕ)) (before after : List ℕ) (a : WriteAnswer) → Reads written-as whole o before after a → (r : BafirolenWritten) → r ≡ write-fields a → Reads image-record whole o before after r
 image-crosses o before after a f r e = record { answer = e ∙ ap write-fields (f .answer) ∙ image-as o; table = f .table }
+
+pub mends-crosses : (o : Answer (List ℕ)) (before after : List ℕ) (a : WriteAnswer) → Mends written-as o before after a → (r : BafirolenWritten) → r ≡ write-fields a → Mends image-record o before after r
+mends-crosses o before after a f r e = record { answer = e ∙ ap write-fields (f .answer) ∙ image-as o; buffer = f .buffer }

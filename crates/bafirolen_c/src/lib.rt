@@ -5,6 +5,7 @@ mod authenticated;
 mod body;
 mod finding;
 mod listing;
+mod mending;
 mod policies;
 mod sections;
 mod version;

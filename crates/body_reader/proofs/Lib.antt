@@ -1,4 +1,1 @@
-pub mod Frames
-pub mod Stages
-pub mod MeasureLaws
 pub mod BodyLaws

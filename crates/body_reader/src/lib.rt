@@ -1,16 +1,12 @@
 // ReadHeaderBody, ReadV1HeaderBody and ReadV2HeaderBody: one operation, of the version and in the mode that the request asks for.
-use context::ContextAnswer;
+use body_measure::MeasureAnswer;
+use body_measure::measure;
 use ends::Closing;
-use ends::ClosingAnswer;
 use ends::Opening;
-use ends::OpeningAnswer;
 use fields::BodyNumbers;
 use fields::OLD;
 use fields::TODAY;
-use fields::frame_fits;
-use keys::KeysAnswer;
 use request::Request;
-use request::Which;
 use wire::Refusal;
 use wire::reading;
 use wire::refusals;
@@ -24,7 +20,7 @@ ghost use Rattle.format.specs.Context.{form-ending};
 ghost use Rattle.format.specs.Body.{read-header-body-under};
 ghost use Rattle.wire.specs.Codes.{because};
 ghost use Rattle.request.specs.Codes.{which-of, policy-of, mode-of, max-of};
-ghost use Rattle.body_reader.specs.Codes.{ReadsBody, Measured, body-with, frame-test, why-measure};
+ghost use Rattle.body_reader.specs.Codes.{ReadsBody, body-with};
 
 // The ID and the suite data by their places in the message, and how many pairs and keys stand in the tables. Type, IV length
 // and suite data are 0 where the version lacks them.
@@ -41,41 +37,6 @@ pub struct HeaderBody {
 pub enum HeaderBodyAnswer {
     Accepted { body: HeaderBody, tail: u64 },
     Refused(Refusal),
-}
-
-// A body before its tables are filled: its ends, the starts of its context section and its key section, and how many pairs and
-// keys they have.
-enum MeasureAnswer {
-    Is {
-        opening: Opening,
-        contextStart: u64,
-        pairCount: u64,
-        keysStart: u64,
-        keyCount: u64,
-        closing: Closing,
-        tail: u64,
-    },
-    Not(Refusal),
-}
-
-impl MeasureAnswer {
-    // The refusal, where there is one.
-    fn refusal(self) -> Refusal
-        ensures { λ r. ⌜ r ≡ why-measure self ⌝ }
-    {
-        match self {
-            MeasureAnswer::Is {
-                opening: _,
-                contextStart: _,
-                pairCount: _,
-                keysStart: _,
-                keyCount: _,
-                closing: _,
-                tail: _,
-            } => refuse(refusals::NONE),
-            MeasureAnswer::Not(r) => r,
-        }
-    }
 }
 
 // An empty context in its old form ends where a first pair would start, and no other section does.
@@ -125,65 +86,6 @@ fn refused(number: u8) -> HeaderBodyAnswer
     HeaderBodyAnswer::Refused(refuse(number))
 }
 
-// The readers of one version don't test 20.
-fn frame_passes(which: Which, contentType: u32, frameLength: u32) -> bool
-    ensures { λ r. ⌜ r ≡ frame-test which contentType frameLength ⌝ }
-{
-    let fits = frame_fits(contentType, frameLength);
-    match which {
-        Which::Either => fits,
-        Which::V1Only => true,
-        Which::V2Only => true,
-    }
-}
-
-// The body at a place, its tables left aside: its tests up to 20.
-fn measure(m: &[u8], start: u64, request: Request) -> MeasureAnswer
-    requires { ⌜ (start < 4294967296) × (length (now m) < 4294967296) ⌝ }
-    ensures { λ r. ⌜ Measured (request .policy) (request .which) (request .mode) (request .max) (now (m .entry)) start r ⌝ }
-{
-    let which = request.which;
-    let policy = request.policy;
-    let mode = request.mode;
-    let max = request.max;
-    let a = ends::read_opening(m, start, which, policy);
-    let OpeningAnswer::Is { opening, tail: aad } = a else {
-        return MeasureAnswer::Not(a.refusal());
-    };
-    let b = context::section::context_at(m, aad, mode);
-    let ContextAnswer::Accepted {
-        pairCount: pairs,
-        tail: edks,
-    } = b
-    else {
-        return MeasureAnswer::Not(b.refusal());
-    };
-    let c = keys::section::keys_at(m, edks, max);
-    let KeysAnswer::Accepted {
-        keyCount: keys,
-        tail: end,
-    } = c
-    else {
-        return MeasureAnswer::Not(c.refusal());
-    };
-    let d = ends::read_closing(m, end, opening.version);
-    let ClosingAnswer::Is { closing, tail } = d else {
-        return MeasureAnswer::Not(d.refusal());
-    };
-    if frame_passes(which, closing.contentType, closing.frameLength) {
-        return MeasureAnswer::Is {
-            opening,
-            contextStart: aad,
-            pairCount: pairs,
-            keysStart: edks,
-            keyCount: keys,
-            closing,
-            tail,
-        };
-    }
-    MeasureAnswer::Not(refuse(refusals::FRAME_LENGTH))
-}
-
 // The body at a place, and its tables, which are filled last: a refusal leaves both.
 fn body_at(
     m: &[u8],
@@ -202,6 +104,7 @@ fn body_at(
         pairCount,
         keysStart,
         keyCount,
+        keysEnd: _,
         closing,
         tail,
     } = a

@@ -19,7 +19,7 @@ use Rattle.format.specs.Frames.{read-frames-into}
 use Rattle.format.specs.OnlyAuthenticated.{write-only-authenticated}
 use Rattle.format.specs.Checks.{first, frames-checks}
 use Rattle.format.specs.Lent.{items, in-text, part-in, frame-in, frames-in, table-checks, size-of, writing-frames}
-use Rattle.format.specs.Refusals.{section-refusals, lead-refusals, forbidden-refusals, opening-refusals, passing, numbers-behind, reserved-refusals, frame-refusals, closing-refusals, key-section-refusals, keys-refusals, body-refusals, auth-refusals, frames-refusals}
+use Rattle.format.specs.Refusals.{section-refusals, lead-refusals, forbidden-refusals, opening-refusals, passing, numbers-behind, reserved-refusals, frame-refusals, room-refusals, closing-refusals, key-section-refusals, keys-refusals, body-refusals, auth-refusals, frames-refusals}
 use Rattle.cases.specs.Cases.{H, opened, laid-out}
 use Rattle.cases.specs.Headers.{bytes-from, V2}
 use Rattle.cases.specs.Tags.{selecting}
@@ -69,18 +69,18 @@ abbrev pub opening-bytes : Bool → List ℕ
 opening-bytes true = take 20 H
 opening-bytes false = take 35 V2
 
-abbrev closing-bytes : Bool → List ℕ
+abbrev pub closing-bytes : Bool → List ℕ
 closing-bytes true = 0x00 ∷ 0x00 ∷ 0x00 ∷ 0x00 ∷ 0x0C ∷ 0x00 ∷ 0x00 ∷ 0x00 ∷ 0x00 ∷ []
 closing-bytes false = 0x00 ∷ 0x00 ∷ 0x00 ∷ 0x00 ∷ bytes-from 0xC0
 
 -- the version byte, type and suite that refuse 3 to 7
-abbrev openings : Which → List (List ℕ)
+abbrev pub openings : Which → List (List ℕ)
 openings either = (0x03 ∷ []) ∷ (0x01 ∷ 0x81 ∷ []) ∷ (0x01 ∷ 0x80 ∷ 0x00 ∷ 0x00 ∷ []) ∷ (0x01 ∷ 0x80 ∷ 0x04 ∷ 0x78 ∷ []) ∷ []
 openings v1-only = (0x03 ∷ []) ∷ (0x02 ∷ []) ∷ (0x01 ∷ 0x81 ∷ []) ∷ (0x01 ∷ 0x80 ∷ 0x00 ∷ 0x00 ∷ []) ∷ (0x01 ∷ 0x80 ∷ 0x04 ∷ 0x78 ∷ []) ∷ []
 openings v2-only = (0x03 ∷ []) ∷ (0x01 ∷ []) ∷ (0x02 ∷ 0x00 ∷ 0x00 ∷ []) ∷ (0x02 ∷ 0x01 ∷ 0x78 ∷ []) ∷ []
 
 -- an empty context section and a key section of one key with no bytes
-abbrev one-key : List ℕ
+abbrev pub one-key : List ℕ
 one-key = 0x00 ∷ 0x00 ∷ 0x00 ∷ 0x01 ∷ 0x00 ∷ 0x00 ∷ 0x00 ∷ 0x00 ∷ 0x00 ∷ 0x00 ∷ []
 
 -- the reserved bytes and IV length that refuse 18 and 19, the frame length that refuses 20, behind them
@@ -91,7 +91,7 @@ abbrev reserved-of : Bool → List (List ℕ)
 reserved-of true = reserved
 reserved-of false = []
 
-abbrev closings : Bool → Which → List (List ℕ)
+abbrev pub closings : Bool → Which → List (List ℕ)
 closings v1 either = reserved-of v1 ++ ((one-key ++ (0x02 ∷ closing-bytes v1)) ∷ [])
 closings v1 v1-only = reserved
 closings v1 v2-only = []
@@ -134,7 +134,7 @@ abbrev pub Answered : Policy → Which → Type 0
 Answered policy which = (mode : Mode) → map (body-said policy which mode) (body-calls policy which) ≡ map some (listed-for policy which tolerant)
 
 pub body-answers : (policy : Policy) (which : Which) → Answered policy which
-unfolding opened said sections H V2 bytes-from opening-refusals lead-refusals forbidden-refusals passing numbers-behind section-refusals reserved-refusals frame-refusals closing-refusals key-section-refusals body-refusals
+unfolding opened said sections H V2 bytes-from opening-refusals lead-refusals forbidden-refusals passing numbers-behind section-refusals reserved-refusals frame-refusals room-refusals closing-refusals key-section-refusals body-refusals
 body-answers no-policy either mode = refl
 body-answers no-policy v1-only mode = refl
 body-answers no-policy v2-only mode = refl

@@ -1,3 +1,5 @@
 pub mod Calls
+pub mod Answered
+pub mod Mendings
 pub mod Sizes
 pub mod Occurs

@@ -3,53 +3,29 @@ use mathlib.Core.Path.{_≡_, refl, sym, ap, _∙_}
 use mathlib.Core.Bool.{Bool, true, false}
 use mathlib.Core.Logic.{_⊎_, ⊎-elim}
 use mathlib.Core.Option.{Option, none, some}
-use mathlib.Core.List.{List, [], _∷_, _++_, map, List·Memᴰ, List·Memᴰ·not-nil, List·Memᴰ·cases-cons}
+use mathlib.Core.List.{List, [], _∷_, _++_, List·Memᴰ}
 use Prim.Native.Nat.{ℕ, _*_}
 use native.Mathlib.Omega.{arith}
 use lib.ListN.{replicate}
-use Rattle.format.specs.Read.{Reader, Answer, accepted, refused, operation}
+use Rattle.format.specs.Read.{refused}
 use Rattle.format.specs.Context.{Mode, tolerant, strict, read-aad-section, read-aad-section-into, look-up, find-value}
-use Rattle.format.specs.Keys.{at-most}
+use Rattle.format.specs.Keys.{no-max, at-most}
 use Rattle.format.specs.Policies.{Policy, lets-read}
-use Rattle.format.specs.Body.{Which, either, v1-only, v2-only, tests-frames, read-header-body-under}
+use Rattle.format.specs.Body.{Which, either, v1-only, v2-only, request-under, tests-frames, read-header-body-under}
 use Rattle.format.specs.Auth.{read-header-auth-tag}
 use Rattle.format.specs.Frames.{read-frames-into}
 use Rattle.format.specs.OnlyAuthenticated.{write-only-authenticated}
-use Rattle.format.specs.Refusals.{section-refusals, context-refusals, find-refusals, only-authenticated-refusals, lead-refusals, forbidden-refusals, opening-refusals, passing, numbers-behind, reserved-refusals, frame-refusals, closing-refusals, key-section-refusals, keys-refusals, body-refusals, auth-refusals, frames-refusals}
+use Rattle.format.specs.Refusals.{section-refusals, context-refusals, find-refusals, only-authenticated-refusals, lead-refusals, forbidden-refusals, opening-refusals, passing, numbers-behind, reserved-refusals, frame-refusals, room-refusals, closing-refusals, key-section-refusals, keys-refusals, body-refusals, auth-refusals, frames-refusals}
 use Rattle.format.specs.Checks.{first}
 use Rattle.format.specs.Lent.{written-of, Writing, size-of, writing-header-body-under, writing-frames}
 use Rattle.format.specs.Size.{size-refusals, frames-size-refusals}
-use Rattle.format.proofs.Members.{has-all, members}
+use Rattle.format.proofs.Members.{has-all}
 use Rattle.format.proofs.Messages.{refused-stays}
 use Rattle.cases.specs.Occurs.{Answers, listed-for, Occurs}
+use Rattle.cases.proofs.Answered.{answered, among, each-answered, one-apart}
+use Rattle.cases.proofs.Mendings.{of-drop, of-add}
 use Rattle.cases.proofs.Sizes.{size-said, size-calls, size-answers}
-use Rattle.cases.proofs.Calls.{number-of, Call, calls, said, sections, far-and-short, section-answers, opening-bytes, is-v1, body-calls, body-answers, old-form, strict-section, strict-body, no-table, no-pair, odd-table, no-output, key-calls, key-answers, auth-said, auth-calls, auth-answers, frames-said, frames-calls, frames-answers, frames-size-said, but-27, frames-size-calls, frames-size-answers, many-frames}
-
--- a number that is answered by a call
-answered : {A : Type 0} (r : Reader A) (c : Call) (k : ℕ) → said r c ≡ some k → Answers r k
-unfolding said
-answered {A} r (m, s) k e = go (operation r m s) refl e
-  where
-    go : (a : Answer A) → operation r m s ≡ a → number-of a ≡ some k → Answers r k
-    go (accepted a t) q e = let z : _≡_ {A = ℕ} 0 1 = cc in absurd (omega arith)
-    go (refused j p) q e = let same : j ≡ k = cc in record { message = m; start = s; position = p; answers = q ∙ ap (λ n. refused n p) same }
-
--- answers that are the numbers of a list answer each of them
-among : {C : Type 0} (f : C → Option ℕ) (cs : List C) (ks : List ℕ) → map f cs ≡ map some ks → (k : ℕ) → List·Memᴰ k ks → (c : C) × (f c ≡ some k)
-among f [] [] e k h = absurd (List·Memᴰ·not-nil h)
-among f [] (j ∷ ks) e k h = let z : _≡_ {A = ℕ} 0 1 = cc in absurd (omega arith)
-among f (c ∷ cs) [] e k h = let z : _≡_ {A = ℕ} 0 1 = cc in absurd (omega arith)
-among f (c ∷ cs) (j ∷ ks) e k h =
-    let e₁ : f c ≡ some j = cc in
-    let e₂ : map f cs ≡ map some ks = cc in
-    ⊎-elim (λ q. (c, e₁ ∙ ap some (sym q))) (among f cs ks e₂ k) (List·Memᴰ·cases-cons h)
-
-each-answered : {A : Type 0} (r : Reader A) (cs : List Call) (ks : List ℕ) → map (said r) cs ≡ map some ks → (k : ℕ) → List·Memᴰ k ks → Answers r k
-each-answered r cs ks e k h = let (c, q) = among (said r) cs ks e k h in answered r c k q
-
--- a list is made of another and of one number more
-one-apart : (x : ℕ) (js ks : List ℕ) → has-all (x ∷ js) ks ≡ true → (k : ℕ) → List·Memᴰ k ks → (k ≡ x) ⊎ List·Memᴰ k js
-one-apart x js ks e k h = List·Memᴰ·cases-cons (members (x ∷ js) ks e k h)
+use Rattle.cases.proofs.Calls.{number-of, calls, sections, far-and-short, section-answers, opening-bytes, is-v1, body-calls, body-answers, old-form, strict-section, strict-body, no-table, no-pair, odd-table, no-output, key-calls, key-answers, auth-said, auth-calls, auth-answers, frames-said, frames-calls, frames-answers, frames-size-said, but-27, frames-size-calls, frames-size-answers, many-frames}
 
 -- the context section, as an operation and in find
 abbrev common : List ℕ
@@ -98,12 +74,12 @@ of-only-authenticated k h =
 
 -- a body, under each policy
 without-21 : (policy : Policy) (which : Which) → has-all (21 ∷ listed-for policy which tolerant) (listed-for policy which strict) ≡ true
-unfolding opening-refusals lead-refusals forbidden-refusals passing numbers-behind section-refusals reserved-refusals frame-refusals closing-refusals key-section-refusals body-refusals
+unfolding opening-refusals lead-refusals forbidden-refusals passing numbers-behind section-refusals reserved-refusals frame-refusals room-refusals closing-refusals key-section-refusals body-refusals
 without-21 policy which = by (lets-read policy 1) which
   where
     by : (b : Bool) (which : Which)
-        → has-all (21 ∷ 1 ∷ 2 ∷ ((lead-refusals which ++ forbidden-refusals b which) ++ numbers-behind (passing b which) (section-refusals tolerant) key-section-refusals (tests-frames which)))
-        (1 ∷ 2 ∷ ((lead-refusals which ++ forbidden-refusals b which) ++ numbers-behind (passing b which) (section-refusals strict) key-section-refusals (tests-frames which))) ≡ true
+        → has-all (21 ∷ 1 ∷ 2 ∷ ((lead-refusals which ++ forbidden-refusals b which) ++ numbers-behind (passing b which) (section-refusals tolerant) key-section-refusals (request-under policy which tolerant (tests-frames which) no-max 0 0)))
+        (1 ∷ 2 ∷ ((lead-refusals which ++ forbidden-refusals b which) ++ numbers-behind (passing b which) (section-refusals strict) key-section-refusals (request-under policy which strict (tests-frames which) no-max 0 0))) ≡ true
     by true either = refl
     by true v1-only = refl
     by true v2-only = refl
@@ -143,6 +119,8 @@ occurs =
       of-context = of-context;
       of-find = of-find;
       of-only-authenticated = of-only-authenticated;
+      of-drop = of-drop;
+      of-add = of-add;
       of-keys = λ k h. (at-most 1, 0, each-answered _ key-calls keys-refusals key-answers k h);
       of-body = λ policy which mode k h. (at-most 1, 4, 0, of-body policy which mode k h);
       of-auth = λ k h. let (c, e) = among auth-said auth-calls auth-refusals auth-answers k h in (c .0, answered (read-header-auth-tag (c .0)) ([], c .1) k e);

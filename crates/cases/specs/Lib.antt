@@ -2,6 +2,7 @@ pub mod Cases
 pub mod Texts
 pub mod Headers
 pub mod Tags
+pub mod Drafts
 pub mod Frames
 pub mod Faults
 pub mod Policies

@@ -4,6 +4,7 @@ use mathlib.Core.Path.{_≡_}
 use mathlib.Core.List.{List, List·Memᴰ}
 use Prim.Native.Nat.{ℕ}
 use Rattle.format.specs.Read.{Reader, refused, operation}
+use Rattle.format.specs.Fields.{EncryptedDataKey}
 use Rattle.format.specs.Context.{Mode, read-aad-section-into, find-value}
 use Rattle.format.specs.Keys.{Max, no-max, read-encrypted-data-keys-section-into}
 use Rattle.format.specs.Policies.{Policy}
@@ -11,8 +12,9 @@ use Rattle.format.specs.Body.{Which, request-under, tests-frames, read-header-b
 use Rattle.format.specs.Auth.{read-header-auth-tag}
 use Rattle.format.specs.Frames.{read-frames-into}
 use Rattle.format.specs.OnlyAuthenticated.{write-only-authenticated}
+use Rattle.format.specs.Mending.{drop-encrypted-data-keys, add-encrypted-data-key}
 use Rattle.format.specs.Lent.{BodyToWrite, size-of, writing-header-body-under, writing-frames}
-use Rattle.format.specs.Refusals.{context-refusals, find-refusals, only-authenticated-refusals, keys-refusals, body-refusals, auth-refusals, frames-refusals}
+use Rattle.format.specs.Refusals.{context-refusals, find-refusals, only-authenticated-refusals, keys-refusals, body-refusals, drop-refusals, add-refusals, auth-refusals, frames-refusals}
 use Rattle.format.specs.Size.{size-refusals, frames-size-refusals}
 
 -- there is a message and a start of which the reader answers the refusal
@@ -22,7 +24,7 @@ pub record Answers {A : Type 0} (r : Reader A) (number : ℕ) : Type 0 where
   pub position : ℕ
   pub answers : operation r message start ≡ refused number position
 
--- what a body reader of that version and mode can answer under the policy; the maximum and the tables don't change the list
+-- what a body reader of that version and mode can answer under the policy; the maximum and how long the tables are don't change the list
 abbrev pub listed-for : Policy → Which → Mode → List ℕ
 listed-for policy which mode = body-refusals (request-under policy which mode (tests-frames which) no-max 0 0)
 
@@ -31,6 +33,8 @@ pub record Occurs : Type 0 where
   pub of-find : (k : ℕ) → List·Memᴰ k find-refusals → (key : List ℕ) × Answers (find-value key) k
   pub of-only-authenticated : (k : ℕ) → List·Memᴰ k only-authenticated-refusals
       → (text : List ℕ) × (required : List ℕ) × (room : ℕ) × Answers (write-only-authenticated text required room) k
+  pub of-drop : (k : ℕ) → List·Memᴰ k drop-refusals → (id : List ℕ) × Answers (drop-encrypted-data-keys id) k
+  pub of-add : (k : ℕ) → List·Memᴰ k add-refusals → (key : EncryptedDataKey) × (room : ℕ) × Answers (add-encrypted-data-key key room) k
   pub of-keys : (k : ℕ) → List·Memᴰ k keys-refusals → (max : Max) × (room : ℕ) × Answers (read-encrypted-data-keys-section-into max room) k
   pub of-body : (policy : Policy) (which : Which) (mode : Mode) (k : ℕ) → List·Memᴰ k (listed-for policy which mode)
       → (max : Max) × (pairRoom : ℕ) × (keyRoom : ℕ) × Answers (read-header-body-under policy which mode max pairRoom keyRoom) k

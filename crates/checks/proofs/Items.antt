@@ -5,6 +5,7 @@ use native.Mathlib.Omega.{arith}
 use mathlib.Core.Path.{_≡_, refl, sym, ap, ap₂, _∙_}
 use mathlib.Core.Bool.{Bool, true}
 use mathlib.Core.List.{List, [], _∷_, _++_, append-assoc}
+use Rattle.format.proofs.Serialize.{images-append}
 use Rattle.format.specs.Serialize.{images, sum, every}
 use Rattle.format.specs.Lent.{items, here}
 use Rattle.format.proofs.Firsts.{both}
@@ -35,11 +36,6 @@ every-at f (suc n) at e (suc j) h =
     rw z (every-at f n (at + 2) (both (f at) _ e .1) j (omega arith))
 
 -- what is made of the parts of items is what is made of the items
-pub images-append : {B C : Type 0} (f : B → List C) (xs ys : List B) → images f (xs ++ ys) ≡ images f xs ++ images f ys
-unfolding images
-images-append f [] ys = refl
-images-append f (x ∷ xs) ys = ap (λ l. f x ++ l) (images-append f xs ys) ∙ sym (append-assoc (f x) (images f xs) (images f ys))
-
 module _ {A B C : Type 0} where
   pub images-of-images : (f : B → List C) (g : A → List B) (h : A → List C) → ((x : A) → images f (g x) ≡ h x) → (xs : List A) → images f (images g xs) ≡ images h xs
   unfolding images

@@ -3,6 +3,7 @@ use mathlib.Core.Path.{_≡_}
 use mathlib.Core.Option.{Option, none, some}
 use mathlib.Core.List.{List}
 use Prim.Native.Nat.{ℕ}
+use lib.ListN.{length}
 use Rattle.format.specs.Read.{Answer, accepted, refused}
 use Rattle.format.specs.Lent.{Writing, written, output-after}
 use Rattle.wire.specs.Codes.{because}
@@ -18,6 +19,11 @@ checked (some k) = Fails (because k 0)
 abbrev pub write-answer-of : Answer (Unit {0}) → WriteAnswer
 write-answer-of (accepted u n) = Written n
 write-answer-of (refused k p) = Refused (because k p)
+
+-- of one that reads first, and gives its image
+abbrev pub written-as : Answer (List ℕ) → WriteAnswer
+written-as (accepted image t) = Written (length image)
+written-as (refused k p) = Refused (because k p)
 
 -- the contract of every writer: what it answers, and what the output holds afterwards
 pub record Writes (w : Writing) (before after : List ℕ) (r : WriteAnswer) : Type 0 where

@@ -28,7 +28,7 @@ module _ (end : List ℕ → ℕ → ℕ) (m : List ℕ) where
   unfolding items-end
   end-step n i s h = rw (one-less n i h)
 
-  end-join : (k j s : ℕ) → items-end end m (k + j) s ≡ items-end end m j (items-end end m k s)
+  pub end-join : (k j s : ℕ) → items-end end m (k + j) s ≡ items-end end m j (items-end end m k s)
   unfolding items-end
   end-join zero j s = ap (λ (n : ℕ). items-end end m n s) (zero-add j)
   end-join (suc k) j s = ap (λ (n : ℕ). items-end end m n s) (suc-add k j) ∙ end-join k j (end m s)

@@ -54,7 +54,7 @@ pairs-pass acc (p ∷ ps) (o, os) =
     let v = o .pair .value in
     (and (short-out (p .key) (k .0)) (and (short-out (p .value) (v .0)) (z .0)), (k .1, (v .1, (o .new, z .1))))
 
-keys-good : (acc ks : List EncryptedDataKey) → every has-uint16-len (images key-parts ks) ≡ true → Holds (each key-checks acc ks) → Oks KeyOk acc ks
+pub keys-good : (acc ks : List EncryptedDataKey) → every has-uint16-len (images key-parts ks) ≡ true → Holds (each key-checks acc ks) → Oks KeyOk acc ks
 unfolding every images each
 keys-good acc [] e h = tt
 keys-good acc (k ∷ ks) e (a, h) =

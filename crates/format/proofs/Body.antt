@@ -4,13 +4,13 @@ use mathlib.Core.Bool.{Bool, true, false, not, _||_}
 use mathlib.Core.List.{List, [], _∷_, _++_, append-nil, map}
 use Prim.Native.Nat.{ℕ, _+_, _*_, _<_}
 use native.Mathlib.Omega.{arith}
-use lib.Dec.{leb, eqb}
+use lib.Dec.{eqb}
 use lib.ListN.{length}
 use Rattle.format.specs.Read.{_>>=_, _>>_, return, test}
 use Rattle.format.specs.Shared.{frame-fits}
 use Rattle.format.specs.Fields.{Form, Pair, EncryptedDataKey, Fields, HeaderBody, pair-of, key-of, fields-of}
 use Rattle.format.specs.Context.{write-aad-pair}
-use Rattle.format.specs.Keys.{write-encrypted-data-key, write-encrypted-data-keys-section}
+use Rattle.format.specs.Keys.{within, write-encrypted-data-key, write-encrypted-data-keys-section}
 use Rattle.format.specs.Body.{Request, whole, after-keys, after-context, after-opening, read-body, image}
 use Rattle.format.proofs.Exact.{Exact, seq-exact, check-exact, check-as, give-exact, revalue, length-puts, map-puts}
 use Rattle.format.proofs.Context.{pair-at, Context, context-bytes}
@@ -32,7 +32,7 @@ context-of x = record { form = x .form; pairs = x .fields .pairs }
 abbrev pub end-of : Fields → End
 end-of f = record { contentType = f .contentType; headerIvLength = f .headerIvLength; frameLength = f .frameLength; suiteData = f .suiteData }
 
-abbrev joined : Top → Context → List EncryptedDataKey → End → Sent
+abbrev pub joined : Top → Context → List EncryptedDataKey → End → Sent
 joined h c ks e =
     record {
       form = c .form;
@@ -56,8 +56,8 @@ pub record BodyOk (q : Request) (x : Sent) : Type 0 where
   pub keys : KeysOk (q .max) (x .fields .keys)
   pub end : EndOk (eqb (x .fields .version) 1) (end-of (x .fields))
   pub t20 : (not (q .frames) || frame-fits (x .fields .contentType) (x .fields .frameLength)) ≡ true
-  pub t22 : leb (4 * length (x .fields .pairs)) (q .pairRoom) ≡ true
-  pub t23 : leb (6 * length (x .fields .keys)) (q .keyRoom) ≡ true
+  pub t22 : within (4 * length (x .fields .pairs)) (q .pairRoom) ≡ true
+  pub t23 : within (6 * length (x .fields .keys)) (q .keyRoom) ≡ true
 
 abbrev pub sent-bytes : Sent → List ℕ
 sent-bytes x = image (x .form) (x .fields)
@@ -77,8 +77,8 @@ unfolding read-body after-opening after-context after-keys image
 body-exact q =
     revalue (BodyOk q) sent-bytes body-at
     (seq-exact _ (opening-exact (q .which) (q .policy)) λ r h. seq-exact _ (marked-exact (q .mode)) λ s c. seq-exact _ (keys-exact (q .max)) λ t ks. seq-exact _ (closing-exact (eqb (h .version) 1)) λ u e.
-    check-exact 20 _ (check-as 22 (leb (4 * length (c .pairs)) (q .pairRoom)) (rw (length-puts write-aad-pair pair-at) refl)
-    (check-as 23 (leb (6 * length ks) (q .keyRoom)) (rw (length-puts write-encrypted-data-key key-at) refl) (give-exact _))))
+    check-exact 20 _ (check-as 22 (within (4 * length (c .pairs)) (q .pairRoom)) (rw (length-puts write-aad-pair pair-at) refl)
+    (check-as 23 (within (6 * length ks) (q .keyRoom)) (rw (length-puts write-encrypted-data-key key-at) refl) (give-exact _))))
     (λ w o. (joined (w .0) (w .1 .0) (w .1 .1 .0) (w .1 .1 .1 .0), search, rw append-nil refl, λ s. refl))
     (λ x o. ((top-of (x .fields), (context-of x, (x .fields .keys, (end-of (x .fields), tt)))), search, rw append-nil refl, λ s. refl))
 

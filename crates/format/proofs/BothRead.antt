@@ -118,7 +118,7 @@ module _ {A B : Type 0} {good : A → Type 0} {r r′ : Reader A} {f f′ : A �
 
 after-context-both : (q : Request) (o : Opening) (x : ContextAt) → BothReadKeys (after-context q o x) (source-after-context q o x)
 unfolding after-context source-after-context
-after-context-both q o x = keys-both (q .max) _ (after-context-listed q o x) (closing-without either (q .frames) .1)
+after-context-both q o x = keys-both (q .max) _ (after-context-listed q o x) (closing-without either q .1)
 
 pub body-both : (q : Request) → BothReadKeys (read-body q) (source-read-body q)
 unfolding read-body source-read-body after-opening source-after-opening

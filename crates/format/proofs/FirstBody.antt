@@ -11,14 +11,15 @@ use lib.ListN.{length, drop}
 use Rattle.format.specs.Read.{ReadResult, success, error, Reader, _>>=_, _>>_, return, test, Answer, accepted, refused, answer, at, addressable, operation}
 use Rattle.format.specs.Serialize.{Part, read, same-bytes}
 use Rattle.format.specs.Shared.{by, one-or-two, known, of-version, id-length, read-message-format-version, read-esdk-suite-id, read-content-type, suite-version, frame-fits}
-use Rattle.format.specs.Fields.{PairAt, EncryptedDataKeyAt, HeaderBody, pair-of}
+use Rattle.format.specs.Fields.{EncryptedDataKey, PairAt, EncryptedDataKeyAt, HeaderBody, pair-of}
 use Rattle.format.specs.Context.{Mode, tolerant, seen, look-up, find-value}
 use Rattle.format.specs.OnlyAuthenticated.{only-authenticated, fitting, write-only-authenticated}
+use Rattle.format.specs.Mending.{without-tables, read-draft, dropped-image, drop-encrypted-data-keys, added-image, add-encrypted-data-key}
 use Rattle.format.specs.Policies.{Policy, lets-read}
-use Rattle.format.specs.Body.{Which, Lead, read-lead-of, read-lead, Opening, after-lead, read-opening, Closing, read-closing-of, read-closing, whole, Request, after-keys, after-context, after-opening, read-body}
+use Rattle.format.specs.Body.{Which, either, Lead, read-lead-of, read-lead, Opening, after-lead, read-opening, Closing, read-closing-of, read-closing, whole, Request, after-keys, after-context, after-opening, read-body}
 use Rattle.format.specs.Auth.{HeaderAuth, zeros, read-header-auth-tag-of, read-header-auth-tag}
 use Rattle.format.specs.Places.{number8, number16, number32, part-of, entry-end, section-pairs, section-keys, section-keys-end, opening-here, closing-here, closing-end, body-here, body-end, value-of, value-here, auth-of-here, auth-here, auth-end}
-use Rattle.format.specs.First.{Line, lacks, when, unless, NoneApplies, FirstApplies, operation-list, lead-list-of, lead-list, opening-list, closing-list-of, closing-list, frame-length-here, body-list, auth-list, find-list, only-authenticated-list, FirstRefusal, FirstRefusals}
+use Rattle.format.specs.First.{Line, lacks, when, unless, NoneApplies, FirstApplies, operation-list, lead-list-of, lead-list, opening-list, closing-list-of, closing-list, frame-length-here, body-list, auth-list, find-list, only-authenticated-list, drop-list, add-list, FirstRefusal, FirstRefusals}
 use Rattle.format.specs.Pinned.{line-number}
 use Rattle.format.proofs.Lines.{first-line, one-none, behind-list, none-applies, applies-none, first-applies, applies-first, Goes, goes-as, return-goes, bind-goes, test-goes, read-goes}
 use Rattle.format.proofs.Messages.{refused-is-no-accepted}
@@ -136,6 +137,15 @@ module _ (q : Request) where
       (λ m s. rw (is-v1 (eqb (number8 m s) 1) m (s + 1), content-is, frame-is) refl)
       (λ m s e. (rw (is-v1 (eqb (number8 m s) 1) m (s + 1)) refl, rw (is-v1 (eqb (number8 m s) 1) m (s + 1)) refl))
 
+-- a draft
+drop-goes : (id : List ℕ) → Goes (drop-encrypted-data-keys id) (drop-list id) (λ m s. dropped-image id (body-here m s)) body-end
+unfolding read-draft drop-encrypted-data-keys drop-list
+drop-goes id = bind-goes (body-goes (without-tables either)) (λ b. test-goes _ _ (return-goes _))
+
+add-goes : (k : EncryptedDataKey) (room : ℕ) → Goes (add-encrypted-data-key k room) (add-list k room) (λ m s. added-image k (body-here m s)) body-end
+unfolding read-draft add-encrypted-data-key fitting add-list
+add-goes k room = bind-goes (body-goes (without-tables either)) (λ b. test-goes _ _ (test-goes _ _ (test-goes _ _ (return-goes _))))
+
 -- find: the key has to be seen among the pairs
 look-goes : (k : List ℕ) (ps : List PairAt) → Goes (look-up k ps) (λ m s. unless 29 (seen k (map pair-of ps)) ∷ []) (λ m s. value-of k ps) (λ m s. s)
 unfolding look-up seen value-of test _>>_ return
@@ -222,6 +232,8 @@ first-refusals =
       of-context = λ mode room. first-refusal (context-into-goes mode room);
       of-find = λ k. first-refusal (find-goes k);
       of-only-authenticated = λ text required room. first-refusal (only-authenticated-goes text required room);
+      of-drop = λ id. first-refusal (drop-goes id);
+      of-add = λ k room. first-refusal (add-goes k room);
       of-keys = λ max room. first-refusal (keys-into-goes max room);
       of-body = λ q. first-refusal (body-goes q);
       of-auth = λ suite. first-refusal (auth-goes suite);

@@ -54,6 +54,14 @@ pub mod Lengths
 pub mod Tables
 pub mod Filled
 pub mod WrittenBack
+pub mod TakenOut
+pub mod Drafts
+pub mod Apart
+pub mod WithoutTables
+pub mod Mending
+pub mod KeysDropped
+pub mod KeyAdded
+pub mod Mended
 pub mod FramesWritten
 pub mod Pinned
 pub mod KeyOrder

@@ -10,14 +10,15 @@ use lib.ListN.{length, drop, length-drop}
 use Rattle.format.specs.Read.{ReadResult, success, more-needed, error, Reader, _>>=_, _>>_, return, test, End, no-end, end-at, Answer, refused, answer, operation}
 use Rattle.format.specs.Serialize.{Part, read-short-length-seq, same-bytes}
 use Rattle.format.specs.Shared.{frame-fits}
-use Rattle.format.specs.Fields.{PairAt, EncryptedDataKeyAt}
+use Rattle.format.specs.Fields.{EncryptedDataKey, PairAt, EncryptedDataKeyAt}
 use Rattle.format.specs.Context.{Mode, tolerant, strict, read-text, read-aad-pair, read-next-aad-pair, read-aad-by, read-aad, read-aad-of, read-aad-section, ContextAt, with-mark, read-aad-section-into, look-up, find-value}
-use Rattle.format.specs.Keys.{Max, read-encrypted-data-key, read-encrypted-data-keys-of, read-encrypted-data-keys-section, read-encrypted-data-keys-section-into}
+use Rattle.format.specs.Keys.{Max, no-max, read-encrypted-data-key, read-encrypted-data-keys-of, read-encrypted-data-keys-section, read-encrypted-data-keys-section-into}
 use Rattle.format.specs.Policies.{lets-read}
-use Rattle.format.specs.Body.{Which, Opening, read-opening, Request, after-keys, after-context, after-opening, read-body}
+use Rattle.format.specs.Body.{Which, either, Opening, read-opening, Request, after-keys, after-context, after-opening, read-body}
 use Rattle.format.specs.Auth.{read-header-auth-tag-of, read-header-auth-tag}
 use Rattle.format.specs.OnlyAuthenticated.{fitting, write-only-authenticated}
-use Rattle.format.specs.Refusals.{section-refusals, context-refusals, find-refusals, only-authenticated-refusals, opening-refusals, passing, closing-refusals, numbers-behind, key-section-refusals, keys-refusals, body-refusals, auth-refusals, frames-refusals, Refusal, RefusesBy, Refusals}
+use Rattle.format.specs.Mending.{without-tables, read-draft, drop-encrypted-data-keys, add-encrypted-data-key}
+use Rattle.format.specs.Refusals.{section-refusals, context-refusals, find-refusals, only-authenticated-refusals, lead-refusals, forbidden-refusals, opening-refusals, passing, reserved-refusals, frame-refusals, room-refusals, closing-refusals, numbers-behind, key-section-refusals, keys-refusals, body-refusals, draft-refusals, drop-refusals, add-refusals, auth-refusals, frames-refusals, Refusal, RefusesBy, Refusals}
 use Rattle.format.proofs.Members.{has, has-neither, no-member}
 use Rattle.format.proofs.ListedLaws.{Fine, Listed, listed-as, bind-listed, then-listed, return-listed, sure-listed, test-listed, held-refusals, held-listed, read-listed, uint16-listed, repeat-listed, enclosed-listed, given-listed, marked-listed}
 use Rattle.format.proofs.ListedEnds.{Opened, opening-listed, opening-gives, closing-listed, tables-listed, frames-listed, Without, opening-without, closing-without}
@@ -114,16 +115,16 @@ keys-into-listed max room = bind-listed (keys-listed max) (λ ks. then-listed (t
 
 -- a body
 -- by a version that what was opened is of; whatever was asked for, it is of either
-pub after-keys-listed : (which : Which) (q : Request) (o : Opening) → Opened (some which) (o .version) → (x : ContextAt) (ks : List EncryptedDataKeyAt) → Listed (closing-refusals which (q .frames)) (after-keys q o x ks)
+pub after-keys-listed : (which : Which) (q : Request) (o : Opening) → Opened (some which) (o .version) → (x : ContextAt) (ks : List EncryptedDataKeyAt) → Listed (closing-refusals which q) (after-keys q o x ks)
 unfolding after-keys closing-refusals
-after-keys-listed which q o h x ks = bind-listed (closing-listed which (o .version) h) (λ c. frames-listed (q .frames) (frame-fits (c .contentType) (c .frameLength)) (tables-listed _ _ _))
+after-keys-listed which q o h x ks = bind-listed (closing-listed which (o .version) h) (λ c. frames-listed (q .frames) (frame-fits (c .contentType) (c .frameLength)) (tables-listed (q .pairRoom) (q .keyRoom) _ _ _))
 
 -- a body, whatever its sections are read by
 abbrev pub body-numbers : Request → List ℕ → List ℕ → List ℕ
-body-numbers q ks js = opening-refusals (q .which) (q .policy) ++ numbers-behind (passing (lets-read (q .policy) 1) (q .which)) ks js (q .frames)
+body-numbers q ks js = opening-refusals (q .which) (q .policy) ++ numbers-behind (passing (lets-read (q .policy) 1) (q .which)) ks js q
 
 opened-listed : (q : Request) {ks js : List ℕ} {section : Reader (List PairAt)} {keys : Reader (List EncryptedDataKeyAt)} → Listed ks section → Listed js keys
-    → (p : Option Which) (o : Opening) → Opened p (o .version) → Listed (numbers-behind p ks js (q .frames)) (with-mark section >>= λ x. keys >>= after-keys q o x)
+    → (p : Option Which) (o : Opening) → Opened p (o .version) → Listed (numbers-behind p ks js q) (with-mark section >>= λ x. keys >>= after-keys q o x)
 unfolding numbers-behind
 opened-listed q h k none o g = absurd g
 opened-listed q h k (some which) o g = bind-listed (marked-listed h) (λ x. bind-listed k (after-keys-listed which q o g x))
@@ -135,6 +136,27 @@ body-listed-by q h k = given-listed (opening-listed (q .which) (q .policy)) (ope
 body-listed : (q : Request) → Listed (body-numbers q (section-refusals (q .mode)) key-section-refusals) (read-body q)
 unfolding read-body after-opening after-context
 body-listed q = body-listed-by q (section-listed (q .mode)) (keys-listed (q .max))
+
+-- a draft, which has no maximum
+draft-keys-listed : Listed (38 ∷ 16 ∷ []) (read-encrypted-data-keys-section no-max)
+unfolding read-encrypted-data-keys-section read-encrypted-data-keys-of
+draft-keys-listed = bind-listed uint16-listed (λ count. then-listed (test-listed 38 _) (then-listed (sure-listed 15 refl) (repeat-listed count (λ acc. key-listed) [])))
+
+draft-listed : Listed draft-refusals read-draft
+unfolding read-draft read-body after-opening after-context opening-refusals lead-refusals forbidden-refusals passing numbers-behind section-refusals closing-refusals reserved-refusals frame-refusals room-refusals draft-refusals
+draft-listed = listed-as draft-refusals refl (body-listed-by (without-tables either) (section-listed tolerant) draft-keys-listed)
+
+drop-listed : (id : List ℕ) → Listed (draft-refusals ++ (40 ∷ [])) (drop-encrypted-data-keys id)
+unfolding drop-encrypted-data-keys
+drop-listed id = bind-listed draft-listed (λ b. then-listed (test-listed 40 _) (return-listed _))
+
+add-listed : (k : EncryptedDataKey) (room : ℕ) → Listed (draft-refusals ++ (16 ∷ 27 ∷ 28 ∷ [])) (add-encrypted-data-key k room)
+unfolding add-encrypted-data-key fitting
+add-listed k room = bind-listed draft-listed (λ b. then-listed (test-listed 16 _) (then-listed (test-listed 27 _) (then-listed (test-listed 28 _) (return-listed _))))
+
+draft-without-2 : Without 2 draft-refusals
+unfolding lead-refusals section-refusals draft-refusals
+draft-without-2 = refl
 
 -- an authentication record
 auth-of-listed : (v1 : Bool) → Listed [] (read-header-auth-tag-of v1)
@@ -180,27 +202,27 @@ never-listed k ks e r h m s p q = no-member (1 ∷ 2 ∷ ks) k e (h m s k p q .i
 
 -- a body's numbers with the sections' between them
 module _ (q : Request) (ks js : List ℕ) where
-  behind-without : (k : ℕ) (p : Option Which) → ((which : Which) → Without k (closing-refusals which (q .frames))) → Without k ks → Without k js → Without k (numbers-behind p ks js (q .frames))
+  behind-without : (k : ℕ) (p : Option Which) → ((which : Which) → Without k (closing-refusals which q)) → Without k ks → Without k js → Without k (numbers-behind p ks js q)
   unfolding numbers-behind
   behind-without k none c e f = refl
-  behind-without k (some which) c e f = has-neither ks (js ++ closing-refusals which (q .frames)) k e (has-neither js (closing-refusals which (q .frames)) k f (c which))
+  behind-without k (some which) c e f = has-neither ks (js ++ closing-refusals which q) k e (has-neither js (closing-refusals which q) k f (c which))
 
-  neither : (k : ℕ) → Without k (opening-refusals (q .which) (q .policy)) → ((which : Which) → Without k (closing-refusals which (q .frames))) → Without k ks → Without k js → Without k (body-numbers q ks js)
+  neither : (k : ℕ) → Without k (opening-refusals (q .which) (q .policy)) → ((which : Which) → Without k (closing-refusals which q)) → Without k ks → Without k js → Without k (body-numbers q ks js)
   neither k o c e f =
       let passed = passing (lets-read (q .policy) 1) (q .which) in
-      has-neither (opening-refusals (q .which) (q .policy)) (numbers-behind passed ks js (q .frames)) k o (behind-without k passed c e f)
+      has-neither (opening-refusals (q .which) (q .policy)) (numbers-behind passed ks js q) k o (behind-without k passed c e f)
 
   pub body-without-2 : Without 2 ks → Without 2 js → Without 2 (body-numbers q ks js)
-  body-without-2 = neither 2 (opening-without (q .which) (q .policy) .0) (λ which. closing-without which (q .frames) .0)
+  body-without-2 = neither 2 (opening-without (q .which) (q .policy) .0) (λ which. closing-without which q .0)
 
   pub body-without-13 : Without 13 ks → Without 13 js → Without 13 (body-numbers q ks js)
-  body-without-13 = neither 13 (opening-without (q .which) (q .policy) .1) (λ which. closing-without which (q .frames) .1)
+  body-without-13 = neither 13 (opening-without (q .which) (q .policy) .1) (λ which. closing-without which q .1)
 
   pub body-without-32 : Without 32 ks → Without 32 js → Without 32 (body-numbers q ks js)
-  body-without-32 = neither 32 (opening-without (q .which) (q .policy) .2) (λ which. closing-without which (q .frames) .2)
+  body-without-32 = neither 32 (opening-without (q .which) (q .policy) .2) (λ which. closing-without which q .2)
 
   pub body-without-38 : Without 38 ks → Without 38 js → Without 38 (body-numbers q ks js)
-  body-without-38 = neither 38 (opening-without (q .which) (q .policy) .3) (λ which. closing-without which (q .frames) .3)
+  body-without-38 = neither 38 (opening-without (q .which) (q .policy) .3) (λ which. closing-without which q .3)
 
 -- a section's, which have 32 among them
 pub section-without : (mode : Mode) → Without 2 (section-refusals mode) × Without 13 (section-refusals mode) × Without 38 (section-refusals mode)
@@ -209,12 +231,14 @@ section-without tolerant = (refl, refl, refl)
 section-without strict = (refl, refl, refl)
 
 pub refusals : Refusals
-unfolding context-refusals find-refusals only-authenticated-refusals key-section-refusals keys-refusals body-refusals auth-refusals frames-refusals
+unfolding context-refusals find-refusals only-authenticated-refusals key-section-refusals keys-refusals body-refusals drop-refusals add-refusals auth-refusals frames-refusals
 refusals =
     record {
       of-context = λ mode room. refuses _ _ (no-member _ 2 (has-neither (section-refusals mode) (22 ∷ []) 2 (section-without mode .0) refl)) (section-into-listed mode room);
       of-find = λ k. refuses _ _ (no-member _ 2 (has-neither (section-refusals tolerant) (29 ∷ []) 2 (section-without tolerant .0) refl)) (find-listed k);
       of-only-authenticated = λ text required room. refuses _ _ (no-member _ 2 (has-neither (section-refusals tolerant) (31 ∷ 28 ∷ []) 2 (section-without tolerant .0) refl)) (only-authenticated-listed text required room);
+      of-drop = λ id. refuses _ _ (no-member _ 2 (has-neither draft-refusals (40 ∷ []) 2 draft-without-2 refl)) (drop-listed id);
+      of-add = λ k room. refuses _ _ (no-member _ 2 (has-neither draft-refusals (16 ∷ 27 ∷ 28 ∷ []) 2 draft-without-2 refl)) (add-listed k room);
       of-keys = λ max room. refuses _ _ (no-member _ 2 refl) (keys-into-listed max room);
       of-body = λ q. refuses _ _ (no-member _ 2 (body-without-2 q (section-refusals (q .mode)) key-section-refusals (section-without (q .mode) .0) refl)) (body-listed q);
       of-auth = λ suite. refuses _ _ (no-member _ 2 refl) (auth-listed suite);

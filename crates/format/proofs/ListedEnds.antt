@@ -8,9 +8,10 @@ use Prim.Native.Nat.{ℕ}
 use lib.Dec.{eqb}
 use Rattle.format.specs.Read.{Reader, _>>=_, _>>_, return, test}
 use Rattle.format.specs.Shared.{read-message-format-version, read-esdk-suite-id, read-content-type}
+use Rattle.format.specs.Keys.{Max, no-max, at-most, within}
 use Rattle.format.specs.Policies.{Policy, no-policy, forbid-encrypt-allow-decrypt, require-encrypt-allow-decrypt, require-encrypt-require-decrypt, lets-read}
-use Rattle.format.specs.Body.{Which, either, v1-only, v2-only, Lead, read-lead-of, read-lead, Opening, after-lead, read-opening, read-closing-of, read-closing}
-use Rattle.format.specs.Refusals.{lead-refusals, forbidden-refusals, opening-refusals, passing, reserved-refusals, frame-refusals, closing-refusals}
+use Rattle.format.specs.Body.{Which, either, v1-only, v2-only, Lead, read-lead-of, read-lead, Opening, after-lead, read-opening, read-closing-of, read-closing, Request}
+use Rattle.format.specs.Refusals.{lead-refusals, forbidden-refusals, opening-refusals, passing, reserved-refusals, frame-refusals, room-refusals, closing-refusals}
 use Rattle.format.proofs.Tests.{never, is-eqb}
 use Rattle.format.proofs.Members.{has, has-neither}
 use Rattle.format.proofs.ListedLaws.{Listed, also, bind-listed, then-listed, behind-listed, return-listed, sure-listed, test-listed, read-listed, uint8-listed, uint16-listed, uint32-listed, Gives, return-gives, given-gives, bind-gives, passed-listed, passed-gives, given-listed}
@@ -139,10 +140,15 @@ closing-listed either version h = bind-listed content-listed (closing-of-listed 
 closing-listed v1-only version h = bind-listed content-listed (closing-of-listed _)
 closing-listed v2-only version h = rw h (bind-listed content-listed second-closing-listed)
 
-pub tables-listed : (p k : Bool) {A : Type 0} (a : A) → Listed (22 ∷ 23 ∷ []) (test 22 p >> (test 23 k >> return a))
-tables-listed p k a = then-listed (test-listed 22 p) (then-listed (test-listed 23 k) (return-listed a))
+room-listed : (k : ℕ) (max : Max) (n : ℕ) → Listed (room-refusals k max) (test k (within n max))
+unfolding room-refusals
+room-listed k no-max n = sure-listed k refl
+room-listed k (at-most room) n = test-listed k _
 
-pub frames-listed : (frames fits : Bool) {A : Type 0} {r : Reader A} → Listed (22 ∷ 23 ∷ []) r → Listed (frame-refusals frames ++ (22 ∷ 23 ∷ [])) (test 20 (not frames || fits) >> r)
+pub tables-listed : (p k : Max) (n j : ℕ) {A : Type 0} (a : A) → Listed (room-refusals 22 p ++ room-refusals 23 k) (test 22 (within n p) >> (test 23 (within j k) >> return a))
+tables-listed p k n j a = then-listed (room-listed 22 p n) (behind-listed (room-listed 23 k j) (return-listed a))
+
+pub frames-listed : (frames fits : Bool) {A : Type 0} {ks : List ℕ} {r : Reader A} → Listed ks r → Listed (frame-refusals frames ++ ks) (test 20 (not frames || fits) >> r)
 unfolding frame-refusals
 frames-listed true fits h = then-listed (test-listed 20 _) h
 frames-listed false fits h = then-listed (sure-listed 20 refl) h
@@ -168,19 +174,36 @@ forbidden-without false either = (refl, refl, refl, refl)
 forbidden-without false v1-only = (refl, refl, refl, refl)
 forbidden-without false v2-only = (refl, refl, refl, refl)
 
+reserved-without : (which : Which) → WithoutThese (reserved-refusals which)
+unfolding reserved-refusals
+reserved-without either = (refl, refl, refl, refl)
+reserved-without v1-only = (refl, refl, refl, refl)
+reserved-without v2-only = (refl, refl, refl, refl)
+
+frame-without : (frames : Bool) → WithoutThese (frame-refusals frames)
+unfolding frame-refusals
+frame-without true = (refl, refl, refl, refl)
+frame-without false = (refl, refl, refl, refl)
+
+room-without : (k : ℕ) → WithoutThese (k ∷ []) → (max : Max) → WithoutThese (room-refusals k max)
+unfolding room-refusals
+room-without k h no-max = (refl, refl, refl, refl)
+room-without k h (at-most room) = h
+
+joined : (ks js : List ℕ) → WithoutThese ks → WithoutThese js → WithoutThese (ks ++ js)
+joined ks js (a, b, c, d) (e, f, g, h) = (has-neither ks js 2 a e, has-neither ks js 13 b f, has-neither ks js 32 c g, has-neither ks js 38 d h)
+
 pub opening-without : (which : Which) (policy : Policy) → WithoutThese (opening-refusals which policy)
 unfolding opening-refusals
-opening-without which policy =
-    let (a, b, c, d) = lead-without which in
-    let (e, f, g, h) = forbidden-without (lets-read policy 1) which in
-    let joined = has-neither (lead-refusals which) (forbidden-refusals (lets-read policy 1) which) in
-    (joined 2 a e, joined 13 b f, joined 32 c g, joined 38 d h)
+opening-without which policy = joined (lead-refusals which) (forbidden-refusals (lets-read policy 1) which) (lead-without which) (forbidden-without (lets-read policy 1) which)
 
-pub closing-without : (which : Which) (frames : Bool) → WithoutThese (closing-refusals which frames)
-unfolding reserved-refusals frame-refusals closing-refusals
-closing-without either true = (refl, refl, refl, refl)
-closing-without either false = (refl, refl, refl, refl)
-closing-without v1-only true = (refl, refl, refl, refl)
-closing-without v1-only false = (refl, refl, refl, refl)
-closing-without v2-only true = (refl, refl, refl, refl)
-closing-without v2-only false = (refl, refl, refl, refl)
+pub closing-without : (which : Which) (q : Request) → WithoutThese (closing-refusals which q)
+unfolding closing-refusals
+closing-without which q =
+    let pairs = room-refusals 22 (q .pairRoom) in
+    let keys = room-refusals 23 (q .keyRoom) in
+    let frames = frame-refusals (q .frames) in
+    joined (17 ∷ []) (reserved-refusals which ++ (frames ++ (pairs ++ keys))) (refl, refl, refl, refl)
+    (joined (reserved-refusals which) (frames ++ (pairs ++ keys)) (reserved-without which)
+    (joined frames (pairs ++ keys) (frame-without (q .frames))
+    (joined pairs keys (room-without 22 (refl, refl, refl, refl) (q .pairRoom)) (room-without 23 (refl, refl, refl, refl) (q .keyRoom)))))

@@ -52,6 +52,12 @@ module _ {A : Type 0} where
   opened (more-needed p) a t e = refused-is-no-accepted e
   opened (error k) a t e = refused-is-no-accepted e
 
+  -- what an exact reader took at a place
+  pub at-took : {W : Type 0} {r : Reader A} {ok : W → Type 0} {img : W → List ℕ} {put : ℕ → W → A} → Exact r ok img put → (m : List ℕ) (s : ℕ) → Bytes m → (a : A) (t : ℕ)
+      → at r m s ≡ accepted a t → (l : List ℕ) × Took ok img put (drop s m) s a l t
+  unfolding at
+  at-took {r = r} h m s hb a t e = let (l, q) = opened (r (drop s m) s) a t e in (l, h .sound (drop s m) s a l t (bytes-drop s m hb) q)
+
   -- an accepted operation read at its start
   pub accepted-inside : (r : Reader A) (m : List ℕ) (s : ℕ) (a : A) (t : ℕ) → operation r m s ≡ accepted a t → (l : List ℕ) × (r (drop s m) s ≡ success a l t)
   accepted-inside r m s a t e = cases r m s (λ no. refused-is-no-accepted (sym no ∙ e)) (λ h k is. opened (r (drop s m) s) a t (sym is ∙ e))

@@ -173,7 +173,7 @@ module _ (q : Request) (m : List ℕ) (s : ℕ) where
       let (read, e₂) = passed (section-refusals (q .mode)) (section-without (q .mode) .2) (marked-goes (q .mode)) (marked-listed (section-listed (q .mode))) _ m aad e₁ in
       record {
         reached = reached (before-keys q) m s fits near (none-join (opening-list (q .which) (q .policy) m s) (context-list (q .mode) m aad) opened read);
-        count = zero-there (closing-refusals either (q .frames)) (closing-without either (q .frames) .3) _ (after-keys-listed either q _ tt _) (q .max) m (entry-end m aad) e₂;
+        count = zero-there (closing-refusals either q) (closing-without either q .3) _ (after-keys-listed either q _ tt _) (q .max) m (entry-end m aad) e₂;
       }
 
   then-body : NoKeyIn q m s → operation (read-body q) m s ≡ refused 38 0

@@ -17,7 +17,7 @@ use Rattle.format.specs.Body.{Which, either, v1-only, v2-only, tests-fra
 use Rattle.format.specs.Lent.{pair-table-after, key-table-after, pair-numbers, key-numbers}
 use Rattle.format.specs.Places.{number8}
 use Rattle.format.specs.First.{NoneApplies, operation-list, lead-list}
-use Rattle.format.specs.Refusals.{section-refusals, key-section-refusals, lead-refusals, forbidden-refusals, passing, numbers-behind, opening-refusals, reserved-refusals, frame-refusals, closing-refusals, body-refusals}
+use Rattle.format.specs.Refusals.{section-refusals, key-section-refusals, lead-refusals, forbidden-refusals, passing, numbers-behind, opening-refusals, reserved-refusals, frame-refusals, room-refusals, closing-refusals, body-refusals}
 use Rattle.format.specs.Demand3.{Writer, Stands}
 use Rattle.format.specs.Lengths.{JustWhere}
 use Rattle.format.specs.Pinned.{Decides}
@@ -79,7 +79,7 @@ module _ (policy : Policy) (which : Which) (mode : Mode) (max : Max) (pairRoom k
 
   -- without a policy 39 is not listed
   never-39 : (p : ℕ) → operation (read-header-body which mode max pairRoom keyRoom) m s ≡ refused 39 p → ⊥
-  unfolding read-header-body-under body-refusals opening-refusals lead-refusals forbidden-refusals passing numbers-behind section-refusals key-section-refusals closing-refusals reserved-refusals frame-refusals
+  unfolding read-header-body-under body-refusals opening-refusals lead-refusals forbidden-refusals passing numbers-behind section-refusals key-section-refusals closing-refusals reserved-refusals frame-refusals room-refusals
   never-39 p = never-listed 39 _ (unlisted which mode) (read-body (asks no-policy)) (refusals .of-body (asks no-policy)) m s p
     where
       unlisted : (which : Which) (mode : Mode) → has (body-refusals (request which mode (tests-frames which) max pairRoom keyRoom)) 39 ≡ false

@@ -133,3 +133,9 @@ entry-exact =
     (free-exact 2 (seq-exact _ uint16-exact λ s n. free-exact n (read-exact n)))
     (λ w o. let e : length (w .1) ≡ w .0 = o .1 in (w .1, rw e (o .0), rw e refl, λ s. rw length-uint16 refl))
     (λ bytes o. ((length bytes, bytes), (o, refl), refl, λ s. rw length-uint16 refl))
+
+-- what each of some items gives, and of others behind them
+pub images-append : {B C : Type 0} (f : B → List C) (xs ys : List B) → images f (xs ++ ys) ≡ images f xs ++ images f ys
+unfolding images
+images-append f [] ys = refl
+images-append f (x ∷ xs) ys = ap (λ l. f x ++ l) (images-append f xs ys) ∙ sym (append-assoc (f x) (images f xs) (images f ys))

@@ -60,7 +60,7 @@ pub keys-into-listed : (max : Max) (room : ℕ) → Listed (keys ++ (23 ∷ []))
 unfolding source-read-encrypted-data-keys-section-into
 keys-into-listed max room = bind-listed (keys-listed max) (λ ks. then-listed (test-listed 23 _) (return-listed _))
 
-pub after-context-listed : (q : Request) (o : Opening) (x : ContextAt) → Listed (keys ++ closing-refusals either (q .frames)) (source-after-context q o x)
+pub after-context-listed : (q : Request) (o : Opening) (x : ContextAt) → Listed (keys ++ closing-refusals either q) (source-after-context q o x)
 unfolding source-after-context
 after-context-listed q o x = bind-listed (keys-listed (q .max)) (after-keys-listed either q o tt x)
 

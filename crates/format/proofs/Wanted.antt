@@ -9,12 +9,13 @@ use lib.ListN.{length, drop, length-drop}
 use Rattle.format.specs.Read.{ReadResult, success, more-needed, error, Reader, End, no-end, Answer, refused, answer, operation}
 use Rattle.format.specs.Serialize.{Bytes, Part, same-bytes, read-short-length-seq}
 use Rattle.format.specs.Shared.{id-length, iv-length, tag-length, commit-key-length, read-message-format-version, read-esdk-suite-id, read-content-type}
-use Rattle.format.specs.Fields.{PairAt}
+use Rattle.format.specs.Fields.{EncryptedDataKey, PairAt}
 use Rattle.format.specs.Context.{Mode, tolerant, read-text, read-aad-pair, read-next-aad-pair, read-aad-by, read-aad, read-aad-of, read-aad-section, ContextAt, mark, with-mark, read-aad-section-into, look-up, find-value}
 use Rattle.format.specs.OnlyAuthenticated.{fitting, write-only-authenticated}
+use Rattle.format.specs.Mending.{without-tables, read-draft, drop-encrypted-data-keys, add-encrypted-data-key}
 use Rattle.format.specs.Keys.{Max, read-encrypted-data-key, read-encrypted-data-keys-of, read-encrypted-data-keys-section, read-encrypted-data-keys-section-into}
 use Rattle.format.specs.Policies.{Policy}
-use Rattle.format.specs.Body.{Which, read-lead-of, read-lead, after-lead, read-opening, read-closing-of, read-closing, Opening, Request, after-keys, after-context, after-opening, read-body}
+use Rattle.format.specs.Body.{Which, either, read-lead-of, read-lead, after-lead, read-opening, read-closing-of, read-closing, Opening, Request, after-keys, after-context, after-opening, read-body}
 use Rattle.format.specs.Auth.{read-header-auth-tag-of, read-header-auth-tag}
 use Rattle.format.specs.Refusals.{WantsWithin, Nearness}
 use Rattle.format.proofs.Frames.{frames-into-wants}
@@ -141,6 +142,15 @@ body-wants : (q : Request) → Header Any (read-body q)
 unfolding read-body after-opening
 body-wants q = bind-wants (opening-wants (q .which) (q .policy)) (λ o g. bind-wants (marked-wants (section-wants (q .mode))) (λ x g. after-context-wants q o x))
 
+-- a draft
+drop-wants : (id : List ℕ) → Header Any (drop-encrypted-data-keys id)
+unfolding read-draft drop-encrypted-data-keys
+drop-wants id = bind-wants (body-wants (without-tables either)) (λ b g. then-wants (test-wants 40 _) (return-wants _))
+
+add-wants : (k : EncryptedDataKey) (room : ℕ) → Header Any (add-encrypted-data-key k room)
+unfolding read-draft add-encrypted-data-key fitting
+add-wants k room = bind-wants (body-wants (without-tables either)) (λ b g. then-wants (test-wants 16 _) (then-wants (test-wants 27 _) (then-wants (test-wants 28 _) (return-wants _))))
+
 -- an authentication record
 auth-of-wants : (v1 : Bool) → Header Any (read-header-auth-tag-of v1)
 unfolding read-header-auth-tag-of
@@ -178,6 +188,8 @@ nearness =
       of-context = λ mode room. wants-within (omega arith) _ (section-into-wants mode room);
       of-find = λ k. wants-within (omega arith) _ (find-wants k);
       of-only-authenticated = λ text required room. wants-within (omega arith) _ (only-authenticated-wants text required room);
+      of-drop = λ id. wants-within (omega arith) _ (drop-wants id);
+      of-add = λ k room. wants-within (omega arith) _ (add-wants k room);
       of-keys = λ max room. wants-within (omega arith) _ (keys-into-wants max room);
       of-body = λ q. wants-within (omega arith) _ (body-wants q);
       of-auth = λ suite. wants-within (omega arith) _ (auth-wants suite);

@@ -2,14 +2,14 @@
 use mathlib.Core.Bool.{Bool, true, false, _||_, not}
 use mathlib.Core.List.{List, [], _∷_, _++_}
 use Prim.Native.Nat.{ℕ, _*_}
-use lib.Dec.{leb, eqb}
+use lib.Dec.{eqb}
 use lib.ListN.{length}
 use Rattle.format.specs.Read.{Reader, _>>=_, _>>_, return, test}
 use Rattle.format.specs.Serialize.{Part, read, read-uint8, read-uint32, write-uint16, write-uint32}
 use Rattle.format.specs.Shared.{id-length, iv-length, commit-key-length, read-message-format-version, read-esdk-suite-id, read-content-type, frame-fits}
 use Rattle.format.specs.Fields.{Form, EncryptedDataKeyAt, Fields, HeaderBody}
 use Rattle.format.specs.Context.{Mode, tolerant, strict, ContextAt, section-in, read-aad-section, with-mark}
-use Rattle.format.specs.Keys.{Max, write-encrypted-data-keys-section, read-encrypted-data-keys-section}
+use Rattle.format.specs.Keys.{Max, at-most, within, write-encrypted-data-keys-section, read-encrypted-data-keys-section}
 use Rattle.format.specs.Policies.{Policy, no-policy, lets-read}
 
 -- which version a reader is asked for
@@ -104,22 +104,23 @@ whole o x ks c =
       suiteData = c .suiteData;
     }
 
--- what a body reader is asked: the version, the policy, the mode, the key maximum, how many numbers its tables hold; and whether it tests 20
+-- what a body reader is asked: the version, the policy, the mode, the key maximum, how many numbers its tables hold at most, where it has
+-- any; and whether it tests 20
 pub record Request : Type 0 where
   pub which : Which
   pub policy : Policy
   pub mode : Mode
   pub max : Max
-  pub pairRoom : ℕ
-  pub keyRoom : ℕ
+  pub pairRoom : Max
+  pub keyRoom : Max
   pub frames : Bool
 
 unfoldable pub after-keys : Request → Opening → ContextAt → List EncryptedDataKeyAt → Reader HeaderBody
 after-keys q o x ks = do
   c ← read-closing (eqb (o .version) 1)
   test 20 (not (q .frames) || frame-fits (c .contentType) (c .frameLength))
-  test 22 (leb (4 * length (x .pairs)) (q .pairRoom))
-  test 23 (leb (6 * length ks) (q .keyRoom))
+  test 22 (within (4 * length (x .pairs)) (q .pairRoom))
+  test 23 (within (6 * length ks) (q .keyRoom))
   return (whole o x ks c)
 
 unfoldable pub after-context : Request → Opening → ContextAt → Reader HeaderBody
@@ -140,7 +141,7 @@ tests-frames v2-only = false
 
 abbrev pub request-under : Policy → Which → Mode → Bool → Max → ℕ → ℕ → Request
 request-under policy which mode frames max pairRoom keyRoom =
-    record { which = which; policy = policy; mode = mode; max = max; pairRoom = pairRoom; keyRoom = keyRoom; frames = frames }
+    record { which = which; policy = policy; mode = mode; max = max; pairRoom = at-most pairRoom; keyRoom = at-most keyRoom; frames = frames }
 
 -- the operation, under the policy, in the mode and of the version asked for
 unfoldable pub read-header-body-under : Policy → Which → Mode → Max → ℕ → ℕ → Reader HeaderBody

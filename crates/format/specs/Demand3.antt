@@ -8,7 +8,7 @@ use lib.ListN.{length, drop}
 use Rattle.format.specs.Read.{Answer, accepted, refused, operation}
 use Rattle.format.specs.Serialize.{Bytes, Part, images, same-bytes}
 use Rattle.format.specs.Shared.{by}
-use Rattle.format.specs.Fields.{Form, today, old, Pair, PairAt, Fields, HeaderBody, fields-of, pair-places, key-places}
+use Rattle.format.specs.Fields.{Form, today, old, Pair, PairAt, Fields, HeaderBody, fields-of, with-keys, pair-places, key-places}
 use Rattle.format.specs.Context.{Mode, tolerant, strict, read-aad-section, find-value}
 use Rattle.format.specs.Keys.{Max, within, read-encrypted-data-keys-section-into}
 use Rattle.format.specs.Policies.{Policy, no-policy}
@@ -159,19 +159,7 @@ pub record Sentence4 (w : BodyToWrite) (out : List ℕ) : Type 0 where
 -- FIELDS WITHOUT A KEY are accepted by neither side, so the rule about two writers speaks of fields with a key. Where nothing but a key is missing,
 -- both sides say so: of fields that a writer accepts, less their keys, 38 is what it answers, and what the reader answers to their bytes.
 abbrev pub without-keys : Fields → Fields
-without-keys f =
-    record {
-      version = f .version;
-      messageType = f .messageType;
-      suite = f .suite;
-      messageId = f .messageId;
-      pairs = f .pairs;
-      keys = [];
-      contentType = f .contentType;
-      headerIvLength = f .headerIvLength;
-      frameLength = f .frameLength;
-      suiteData = f .suiteData;
-    }
+without-keys f = with-keys [] f
 
 pub record NoKeys : Type 0 where
   pub no-writer : (form : Form) (f : Fields) → f .keys ≡ [] → Accepts form f → ⊥

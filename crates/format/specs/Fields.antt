@@ -79,6 +79,22 @@ fields-of b =
       suiteData = b .suiteData .bytes;
     }
 
+-- the same fields with other keys
+abbrev pub with-keys : List EncryptedDataKey → Fields → Fields
+with-keys ks f =
+    record {
+      version = f .version;
+      messageType = f .messageType;
+      suite = f .suite;
+      messageId = f .messageId;
+      pairs = f .pairs;
+      keys = ks;
+      contentType = f .contentType;
+      headerIvLength = f .headerIvLength;
+      frameLength = f .frameLength;
+      suiteData = f .suiteData;
+    }
+
 -- an item's parts, in order: the two of a pair, the three of a key
 abbrev pub pair-parts : Pair → List (List ℕ)
 pair-parts p = p .key ∷ p .value ∷ []

@@ -9,12 +9,12 @@ use Rattle.format.specs.Serialize.{read-uint16, write-uint16, read-short
 use Rattle.format.specs.Fields.{EncryptedDataKey, EncryptedDataKeyAt}
 use Rattle.format.specs.Context.{read-text}
 
--- the key maximum of a request: none, or a number
+-- a maximum of a request, of keys or of the numbers that a table holds: none, or a number
 pub data Max : Type 0 where
   no-max : Max
   at-most : ℕ → Max
 
--- the maximum is not passed by n keys
+-- it is not passed by n
 abbrev pub within : ℕ → Max → Bool
 within n no-max = true
 within n (at-most max) = leb n max

@@ -13,12 +13,14 @@ pub mod Checks
 pub mod Lent
 pub mod Sorted
 pub mod OnlyAuthenticated
+pub mod Mending
 pub mod Source
 pub mod Places
 pub mod First
 pub mod Refusals
 pub mod Demand3
 pub mod WrittenBack
+pub mod Mended
 pub mod Sections
 pub mod FrameLaws
 pub mod Characters

@@ -8,13 +8,15 @@ use Prim.Native.Nat.{ℕ, _+_, _-_, _<_}
 use lib.ListN.{length}
 use Rattle.format.specs.Read.{Reader, operation, refused}
 use Rattle.format.specs.Serialize.{Bytes}
+use Rattle.format.specs.Fields.{EncryptedDataKey}
 use Rattle.format.specs.Context.{Mode, tolerant, strict, read-aad-section-into, find-value}
-use Rattle.format.specs.Keys.{Max, read-encrypted-data-keys-section-into}
+use Rattle.format.specs.Keys.{Max, no-max, at-most, read-encrypted-data-keys-section-into}
 use Rattle.format.specs.Policies.{Policy, lets-read}
 use Rattle.format.specs.Body.{Which, either, v1-only, v2-only, Request, read-body}
 use Rattle.format.specs.Auth.{read-header-auth-tag}
 use Rattle.format.specs.Frames.{read-frames-into}
 use Rattle.format.specs.OnlyAuthenticated.{write-only-authenticated}
+use Rattle.format.specs.Mending.{drop-encrypted-data-keys, add-encrypted-data-key}
 
 -- only the strict mode answers 21
 unfoldable pub section-refusals : Mode → List ℕ
@@ -71,17 +73,32 @@ unfoldable pub frame-refusals : Bool → List ℕ
 frame-refusals true = 20 ∷ []
 frame-refusals false = []
 
-unfoldable pub closing-refusals : Which → Bool → List ℕ
-closing-refusals which frames = 17 ∷ (reserved-refusals which ++ (frame-refusals frames ++ (22 ∷ 23 ∷ [])))
+-- only one that has a table says that it is too short
+unfoldable pub room-refusals : ℕ → Max → List ℕ
+room-refusals k no-max = []
+room-refusals k (at-most room) = k ∷ []
+
+unfoldable pub closing-refusals : Which → Request → List ℕ
+closing-refusals which q = 17 ∷ (reserved-refusals which ++ (frame-refusals (q .frames) ++ (room-refusals 22 (q .pairRoom) ++ room-refusals 23 (q .keyRoom))))
 
 -- behind the opening, by the sections' numbers
-unfoldable pub numbers-behind : Option Which → List ℕ → List ℕ → Bool → List ℕ
-numbers-behind none ks js frames = []
-numbers-behind (some which) ks js frames = ks ++ (js ++ closing-refusals which frames)
+unfoldable pub numbers-behind : Option Which → List ℕ → List ℕ → Request → List ℕ
+numbers-behind none ks js q = []
+numbers-behind (some which) ks js q = ks ++ (js ++ closing-refusals which q)
 
 unfoldable pub body-refusals : Request → List ℕ
 body-refusals q =
-    1 ∷ 2 ∷ (opening-refusals (q .which) (q .policy) ++ numbers-behind (passing (lets-read (q .policy) 1) (q .which)) (section-refusals (q .mode)) key-section-refusals (q .frames))
+    1 ∷ 2 ∷ (opening-refusals (q .which) (q .policy) ++ numbers-behind (passing (lets-read (q .policy) 1) (q .which)) (section-refusals (q .mode)) key-section-refusals q)
+
+-- of a draft, which is read in either version, tolerantly, without tables: neither 4 nor 15, which no maximum answers, nor 21, 22 and 23
+unfoldable pub draft-refusals : List ℕ
+draft-refusals = lead-refusals either ++ (section-refusals tolerant ++ (38 ∷ 16 ∷ 17 ∷ 18 ∷ 19 ∷ 20 ∷ []))
+
+unfoldable pub drop-refusals : List ℕ
+drop-refusals = 1 ∷ 2 ∷ (draft-refusals ++ (40 ∷ []))
+
+unfoldable pub add-refusals : List ℕ
+add-refusals = 1 ∷ 2 ∷ (draft-refusals ++ (16 ∷ 27 ∷ 28 ∷ []))
 
 unfoldable pub auth-refusals : List ℕ
 auth-refusals = 1 ∷ 2 ∷ 6 ∷ []
@@ -104,6 +121,8 @@ pub record Refusals : Type 0 where
   pub of-context : (mode : Mode) (room : ℕ) → RefusesBy (context-refusals mode) (read-aad-section-into mode room)
   pub of-find : (k : List ℕ) → RefusesBy find-refusals (find-value k)
   pub of-only-authenticated : (text required : List ℕ) (room : ℕ) → RefusesBy only-authenticated-refusals (write-only-authenticated text required room)
+  pub of-drop : (id : List ℕ) → RefusesBy drop-refusals (drop-encrypted-data-keys id)
+  pub of-add : (k : EncryptedDataKey) (room : ℕ) → RefusesBy add-refusals (add-encrypted-data-key k room)
   pub of-keys : (max : Max) (room : ℕ) → RefusesBy keys-refusals (read-encrypted-data-keys-section-into max room)
   pub of-body : (q : Request) → RefusesBy (body-refusals q) (read-body q)
   pub of-auth : (suite : ℕ) → RefusesBy auth-refusals (read-header-auth-tag suite)
@@ -121,6 +140,8 @@ pub record Nearness : Type 0 where
   pub of-context : (mode : Mode) (room : ℕ) → WantsNear (read-aad-section-into mode room)
   pub of-find : (k : List ℕ) → WantsNear (find-value k)
   pub of-only-authenticated : (text required : List ℕ) (room : ℕ) → WantsNear (write-only-authenticated text required room)
+  pub of-drop : (id : List ℕ) → WantsNear (drop-encrypted-data-keys id)
+  pub of-add : (k : EncryptedDataKey) (room : ℕ) → WantsNear (add-encrypted-data-key k room)
   pub of-keys : (max : Max) (room : ℕ) → WantsNear (read-encrypted-data-keys-section-into max room)
   pub of-body : (q : Request) → WantsNear (read-body q)
   pub of-auth : (suite : ℕ) → WantsNear (read-header-auth-tag suite)

@@ -10,7 +10,7 @@ use Rattle.format.specs.Lent.{filled}
 use Rattle.listing_text.specs.Listing.{listing}
 use Rattle.listing_text.specs.Answers.{Lists}
 use Rattle.listing_text.proofs.AnswerLaws.{fitting-answer, fitting-output}
-use Rattle.listing_text.proofs.Joint.{bytes-of}
+use Rattle.wire.proofs.Answers.{bytes-of}
 use Rattle.listing_text.proofs.Bound.{listing-fits}
 use Rattle.wire.specs.declared.Refusal.{Refusal}
 use Rattle.checks.specs.declared.WriteAnswer.{WriteAnswer}

@@ -15,7 +15,7 @@ use Rattle.format.specs.Fields.{Form, today, old, Pair, EncryptedDataKey, Field
 use Rattle.format.specs.Context.{tolerant, write-aad-pair, write-aad-pairs, write-aad-section, section-in}
 use Rattle.format.specs.Keys.{no-max, write-encrypted-data-key, write-encrypted-data-keys, write-encrypted-data-keys-section}
 use Rattle.format.specs.Body.{either, Request, request, read-body, read-header-body-under, write-opening-of, write-closing-of, image}
-use Rattle.format.specs.Refusals.{lead-refusals, forbidden-refusals, passing, numbers-behind, opening-refusals, section-refusals, reserved-refusals, frame-refusals, closing-refusals, key-section-refusals, body-refusals, Refusal}
+use Rattle.format.specs.Refusals.{lead-refusals, forbidden-refusals, passing, numbers-behind, opening-refusals, section-refusals, reserved-refusals, frame-refusals, room-refusals, closing-refusals, key-section-refusals, body-refusals, Refusal}
 use Rattle.format.specs.Demand3.{mark-by}
 use Rattle.format.proofs.Tests.{is-eqb}
 use Rattle.format.proofs.Serialize.{length-uint16, length-uint32, length-entry}
@@ -180,7 +180,7 @@ module _ (m : List ℕ) (hb : Bytes m) where
       by false q = let none : p ≡ 0 = h .otherwise-0 (eqb-false k 2 q) in omega arith
 
   answer-fits : (a : Answer HeaderBody) → as-listed m 0 ≡ a → length (listing-of a) ≤ 2 * length m + 28
-  unfolding read-header-body-under body-refusals opening-refusals lead-refusals forbidden-refusals passing numbers-behind section-refusals reserved-refusals frame-refusals closing-refusals key-section-refusals every
+  unfolding read-header-body-under body-refusals opening-refusals lead-refusals forbidden-refusals passing numbers-behind section-refusals reserved-refusals frame-refusals room-refusals closing-refusals key-section-refusals every
   answer-fits (accepted b t) e = accepted-fits b t e
   answer-fits (refused k p) e =
       let h : Refusal (body-refusals asked) m k p = refusals .of-body asked m 0 k p e in

@@ -3,12 +3,12 @@ use mathlib.Core.Path.{_≡_, refl, sym, ap, _∙_}
 use mathlib.Core.List.{List, [], _∷_, _++_, append-assoc}
 use mir.Syntax.{w8}
 use mir.Val.{Fits}
-use Prim.Native.Nat.{ℕ, suc, _+_, _*_, _-_, _≤_, _<_}
+use Prim.Native.Nat.{ℕ, _+_, _*_, _-_, _≤_, _<_}
 use native.Mathlib.Nat.{mul-suc}
 use native.Mathlib.Omega.{arith, by-contra}
 use lib.ListN.{length, getD, drop, length-append, length-drop, length-map}
 use Rattle.format.specs.Read.{Answer, accepted, refused, operation}
-use Rattle.format.specs.Serialize.{Bytes, Part, images}
+use Rattle.format.specs.Serialize.{Part, images}
 use Rattle.format.specs.Fields.{HeaderBody as BodyRead, pair-of, key-of, pair-places, key-places, fields-of}
 use Rattle.format.specs.Context.{tolerant}
 use Rattle.format.specs.Keys.{no-max}
@@ -19,6 +19,7 @@ use Rattle.format.proofs.Messages.{operation-long, refused-is-no-accepted}
 use Rattle.format.proofs.Demand3.{demand-3}
 use Rattle.wire.specs.Codes.{because}
 use Rattle.wire.specs.declared.Refusal.{Refusal}
+use Rattle.wire.proofs.Answers.{bytes-of}
 use Rattle.body_reader.specs.Codes.{body-code, body-of, ReadsBody}
 use Rattle.body_reader.specs.declared.HeaderBody.{HeaderBody}
 use Rattle.body_reader.specs.declared.HeaderBodyAnswer.{HeaderBodyAnswer}
@@ -125,11 +126,6 @@ module _ (m : List ℕ) (a : HeaderBodyAnswer) (pairs keys : List ℕ) (w : Read
   pub refusal-listed : (q : Refusal) → a ≡ Refused q → (d o : List ℕ) (r : WriteAnswer) → Lists (refusal-listing (q .number) (q .position)) d o r → Lists (listing m) d o r
   unfolding listing
   refusal-listed q f d o r l = rw (was-refused (as-listed m 0) a (w .reads .answer) q f) l
-
--- the elements of a message are bytes
-pub bytes-of : (m : List ℕ) → ((i : ℕ) → Fits w8 (getD m i 0)) → Bytes m
-bytes-of [] h = tt
-bytes-of (x ∷ l) h = (h 0 .fits, bytes-of l (λ i. h (suc i)))
 
 pub reading-is : (m : List ℕ) (a : HeaderBodyAnswer) (p p′ k k′ : List ℕ) → length p ≡ 4096 → length k ≡ 4096 → ((i : ℕ) → Fits w8 (getD m i 0))
     → ReadsBody (operation (read-header-body either tolerant no-max (length p) (length k)) m 0) p p′ k k′ a → Reading m a p′ k′

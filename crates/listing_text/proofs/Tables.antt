@@ -8,14 +8,10 @@ use lib.Seq.{drop-drop, drop-at, getD-drop}
 use Rattle.format.specs.Serialize.{Part, images}
 use Rattle.format.specs.Lent.{bytes-at, place, items, here, part-in}
 use Rattle.format.specs.Demand3.{Held, Each}
+use Rattle.format.proofs.Serialize.{images-append}
 use Rattle.text.specs.Text.{hex, field}
 use Rattle.listing_text.specs.Listing.{hex-field, lines}
 use Rattle.text.specs.Put.{There, PartThere, ItemThere, texts, part-field, item-line}
-
-pub images-append : {B C : Type 0} (f : B → List C) (xs ys : List B) → images f (xs ++ ys) ≡ images f xs ++ images f ys
-unfolding images
-images-append f [] ys = refl
-images-append f (x ∷ xs) ys = ap (λ l. f x ++ l) (images-append f xs ys) ∙ sym (append-assoc (f x) (images f xs) (images f ys))
 
 each-left : (P : Part → Type 0) (xs ys : List Part) → Each P (xs ++ ys) → Each P xs
 each-left P [] ys h = tt

@@ -21,7 +21,8 @@ use Rattle.entries.specs.Codes.{EntryIs}
 use Rattle.entries.specs.declared.Entry.{Entry}
 use Rattle.checks.specs.declared.WriteAnswer.{WriteAnswer}
 use Rattle.checks.specs.declared.WriteAnswer.the-variants.{Written, Refused}
-use Rattle.checks.proofs.Items.{images-append, sum-append}
+use Rattle.format.proofs.Serialize.{images-append}
+use Rattle.checks.proofs.Items.{sum-append}
 use Rattle.checks.proofs.Writers.{stored-first, chain}
 use Rattle.pair_index.specs.Index.{pair-from}
 use Rattle.only_authenticated.specs.Codes.{Puts}

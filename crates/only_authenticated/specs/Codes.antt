@@ -5,7 +5,7 @@ use mathlib.Core.List.{List}
 use Prim.Native.Nat.{ℕ, _+_, _≤_, _<_}
 use lib.Dec.{leb}
 use lib.ListN.{length}
-use Rattle.format.specs.Read.{Answer, accepted, refused, at}
+use Rattle.format.specs.Read.{accepted, at}
 use Rattle.format.specs.Fields.{PairAt}
 use Rattle.format.specs.Context.{tolerant, read-aad-section}
 use Rattle.format.specs.Lent.{filled}
@@ -13,10 +13,6 @@ use Rattle.format.specs.Places.{number16}
 use Rattle.wire.specs.Codes.{because}
 use Rattle.checks.specs.declared.WriteAnswer.{WriteAnswer}
 use Rattle.checks.specs.declared.WriteAnswer.the-variants.{Written, Refused}
-
-abbrev pub written-as : Answer (List ℕ) → WriteAnswer
-written-as (accepted image t) = Written (length image)
-written-as (refused k p) = Refused (because k p)
 
 -- what is written is the image, whole
 abbrev pub whole : List ℕ → List ℕ

@@ -22,8 +22,8 @@ use Rattle.frames.specs.Codes.{frames-of}
 use Rattle.frames.specs.declared.FramesAnswer.the-variants as frames
 use Rattle.auth.specs.Codes.{auth-of}
 use Rattle.auth.specs.declared.AuthRead.{AuthRead}
+use Rattle.checks.specs.Answers.{written-as}
 use Rattle.checks.specs.declared.WriteAnswer.the-variants as write
-use Rattle.only_authenticated.specs.Codes.{written-as}
 use Rattle.promises.specs.Listed.{ByFirst, AuthByFirst, ListedPromises}
 
 -- an answer enum that keeps a refusal apart from what is accepted
@@ -86,6 +86,8 @@ listed-promises =
       of-context = λ mode room m s before after r call. by-first context-of context.Refused back-context (λ k p. refl) (first-refusals .of-context mode room m s) r (call .answer);
       of-find = λ k m s r call. by-first found-of found.Refused back-found (λ k p. refl) (first-refusals .of-find k m s) r call;
       of-only-authenticated = λ text required m s before after r call. by-first written-as write.Refused back-written (λ k p. refl) (first-refusals .of-only-authenticated text required (length before) m s) r (call .answer);
+      of-drop = λ id before after r call. by-first written-as write.Refused back-written (λ k p. refl) (first-refusals .of-drop id before 0) r (call .answer);
+      of-add = λ k before after r call. by-first written-as write.Refused back-written (λ k p. refl) (first-refusals .of-add k (length before) before 0) r (call .answer);
       of-keys = λ max room m s before after r call. by-first keys-of keys.Refused back-keys (λ k p. refl) (first-refusals .of-keys max room m s) r (call .answer);
       of-auth = λ suite m s r call. auth-by-first (first-refusals .of-auth suite m s) r call;
       of-frames = λ frame room m s before after r call. by-first frames-of frames.Refused back-frames (λ k p. refl) (first-refusals .of-frames frame room m s) r (call .answer);

@@ -11,9 +11,10 @@ use Rattle.format.specs.OnlyAuthenticated.{write-only-authenticated}
 use Rattle.format.specs.Selection.{OnlyAuthenticatedLaw}
 use Rattle.format.proofs.Selection.{selection}
 use Rattle.wire.specs.declared.Refusal.{Refusal}
+use Rattle.checks.specs.Answers.{written-as}
 use Rattle.checks.specs.declared.WriteAnswer.{WriteAnswer}
 use Rattle.checks.specs.declared.WriteAnswer.the-variants.{Written, Refused}
-use Rattle.only_authenticated.specs.Codes.{written-as, whole}
+use Rattle.only_authenticated.specs.Codes.{whole}
 use Rattle.promises.specs.OnlyAuthenticated.{Call, Meets, Promise, OnlyAuthenticatedPromises}
 
 -- what a code's answer says of the definition's

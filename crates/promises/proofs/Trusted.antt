@@ -30,8 +30,9 @@ use Rattle.frames.specs.Codes.{frames-of}
 use Rattle.frames.specs.declared.FramesAnswer.the-variants as frames
 use Rattle.auth.specs.Codes.{auth-of}
 use Rattle.auth.specs.declared.AuthRead.{AuthRead}
+use Rattle.checks.specs.Answers.{written-as}
 use Rattle.checks.specs.declared.WriteAnswer.the-variants as write
-use Rattle.only_authenticated.specs.Codes.{written-as, whole}
+use Rattle.only_authenticated.specs.Codes.{whole}
 use Rattle.body_reader.specs.Codes.{body-of}
 use Rattle.body_reader.specs.declared.HeaderBody.{HeaderBody}
 use Rattle.body_reader.specs.declared.HeaderBodyAnswer.the-variants as body

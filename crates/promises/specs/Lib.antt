@@ -6,6 +6,7 @@ pub mod NoKeys
 pub mod Policies
 pub mod Listed
 pub mod OnlyAuthenticated
+pub mod Mended
 pub mod Frames
 pub mod FramesWritten
 pub mod Source

@@ -34,9 +34,10 @@ use Rattle.frames.specs.declared.FramesAnswer.{FramesAnswer}
 use Rattle.frames.specs.declared.FramesAnswer.the-variants as frames
 use Rattle.auth.specs.Codes.{auth-of}
 use Rattle.auth.specs.declared.AuthRead.{AuthRead}
+use Rattle.checks.specs.Answers.{written-as}
 use Rattle.checks.specs.declared.WriteAnswer.{WriteAnswer}
 use Rattle.checks.specs.declared.WriteAnswer.the-variants as write
-use Rattle.only_authenticated.specs.Codes.{written-as, whole}
+use Rattle.only_authenticated.specs.Codes.{whole}
 use Rattle.body_reader.specs.declared.HeaderBody.{HeaderBody}
 use Rattle.body_reader.specs.declared.HeaderBodyAnswer.{HeaderBodyAnswer}
 use Rattle.body_reader.specs.declared.HeaderBodyAnswer.the-variants as body

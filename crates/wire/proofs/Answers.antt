@@ -1,14 +1,14 @@
 -- The code's answers and a reader's: making one, and taking one apart. Assumes nothing.
-use Prim.Native.Nat.{ℕ, _+_, _<_, _^_}
-use mir.Syntax.{w32}
+use Prim.Native.Nat.{ℕ, suc, _+_, _<_, _^_}
+use mir.Syntax.{w8, w32}
 use mir.Val.{Fits}
 use mathlib.Core.Path.{_≡_, sym, ap, _∙_}
 use mathlib.Core.Bool.{Bool, true, false}
-use mathlib.Core.List.{List}
+use mathlib.Core.List.{List, [], _∷_}
 use native.Mathlib.Omega.{arith}
-use lib.ListN.{length}
+use lib.ListN.{length, getD}
 use Rattle.format.specs.Read.{Reader, Answer, accepted, refused, at, addressable, operation}
-use Rattle.format.specs.Serialize.{Part}
+use Rattle.format.specs.Serialize.{Bytes, Part}
 use Rattle.steps.proofs.Operations.{reach, operation-guarded, operation-reached}
 use Rattle.wire.specs.Codes.{because, number-of, span-of, why-number, why-span, Below}
 use Rattle.wire.specs.declared.Refusal.{Refusal}
@@ -16,6 +16,11 @@ use Rattle.wire.specs.declared.Number.{Number}
 use Rattle.wire.specs.declared.Number.the-variants as number
 use Rattle.wire.specs.declared.Span.{Span}
 use Rattle.wire.specs.declared.Span.the-variants as span
+
+-- the elements of a message are bytes
+pub bytes-of : (m : List ℕ) → ((i : ℕ) → Fits w8 (getD m i 0)) → Bytes m
+bytes-of [] h = tt
+bytes-of (x ∷ l) h = (h 0 .fits, bytes-of l (λ i. h (suc i)))
 
 -- a number
 pub is-number : (o : Answer ℕ) (v t n : ℕ) → v ≡ n → o ≡ accepted n t → number.Is v t ≡ number-of o

@@ -119,3 +119,6 @@ pub const NO_ENCRYPTED_DATA_KEY: u8 = 38;
 
 // The policy forbids the suite.
 pub const FORBIDDEN_BY_POLICY: u8 = 39;
+
+// No encrypted data key would remain.
+pub const NO_KEY_REMAINS: u8 = 40;

@@ -1,0 +1,4 @@
+pub mod Frames
+pub mod Stages
+pub mod MeasureLaws
+pub mod Parts
