@@ -1,5 +1,5 @@
 /*
- * Message headers of the AWS Encryption SDK: reads, writes and lists header bodies, reads and writes their two sections and
+ * Message headers of the AWS Encryption SDK: reads, writes, mends and lists header bodies, reads and writes their two sections and
  * authentication records, and the frames behind them. For hosts in C99 and C++11 and later. Nothing is verified, signed, encrypted
  * or decrypted: that a header or a frame is accepted says how it is built, and not whose it is.
  *
@@ -9,14 +9,15 @@
  * THE SHORTEST USE. bafirolen_header_number says of the bytes at a start whether a header is there (0) or why not, and
  * bafirolen_header_position where it ends, or how many bytes are wanted. A host that wants the fields calls
  * bafirolen_read_header_body; one that has a commitment policy, a function of bafirolen_policy.h in its place. bafirolen_fetch.h
- * has the loop for a header that comes in pieces, as from a pipe.
+ * has the loop for a header that comes in pieces, as from a pipe. bafirolen_drafts.h takes encrypted data keys out of a body in the
+ * buffer in which it stands, and adds one.
  *
  * LENDING. A pointer and a length together are one lent part: `const uint8_t *message, size_t message_len`. The length counts
  * elements: bytes of a message, numbers of a table (`sizeof table` counts bytes: lend sizeof table / sizeof *table). A part of
  * length 0 takes any pointer, NULL included. Any other pointer leads to at least that many elements and has its type's
- * alignment. What a function may change (`out`, `table`, and `pairs` and `keys` without `const`) shares no byte with anything
- * else that the same call is lent; what it only reads may overlap. Nothing is kept after a call, nothing is allocated, and calls
- * share no state: several threads may call at once.
+ * alignment. What a function may change (`out`, `table`, `draft`, and `pairs` and `keys` without `const`) shares no byte with
+ * anything else that the same call is lent; what it only reads may overlap. Nothing is kept after a call, nothing is allocated, and
+ * calls share no state: several threads may call at once.
  *
  * PLACES are offsets in bytes from the first byte of the message, whatever the start, or of the text that a writer is lent.
  * `tail` is the place right after what was read.
@@ -46,6 +47,7 @@
 #include <stddef.h>
 #include <stdint.h>
 
+#include "bafirolen_drafts.h"
 #include "bafirolen_fetch.h"
 #include "bafirolen_policy.h"
 #include "bafirolen_records.h"
@@ -57,9 +59,9 @@ extern "C" {
 
 /*
  * The version of these declarations, which grows by one with each change of them. bafirolen_version gives that of the archive:
- * where the two differ, the archive was made for another header file than this. A host of version 8 knows no refusal 39.
+ * where the two differ, the archive was made for another header file than this. A host of version 9 knows no refusal 40.
  */
-#define BAFIROLEN_VERSION 9
+#define BAFIROLEN_VERSION 10
 uint32_t bafirolen_version(void);
 
 /*
@@ -68,7 +70,7 @@ uint32_t bafirolen_version(void);
  * also takes what the dynamic linker takes, for which these figures leave some room. bafirolen_version takes less than
  * BAFIROLEN_STACK_KEYS.
  */
-#define BAFIROLEN_STACK_READ 40960               /* read a context section or a body; find and copy a value */
+#define BAFIROLEN_STACK_READ 40960               /* read a context section or a body; find and copy a value; mend a draft */
 #define BAFIROLEN_STACK_KEYS 1024                /* key sections, authentication records and frames, and the length of frames */
 #define BAFIROLEN_STACK_ONLY_AUTHENTICATED 57344 /* write the pairs of required keys, whose order lies on the stack */
 #define BAFIROLEN_STACK_LISTED 73728             /* the number, the position, the listing: their tables lie on the stack */

@@ -131,11 +131,11 @@ static inline uint64_t bafirolen_context_start(BafirolenBody body)
     return body.messageIdStart + body.messageIdLen;
 }
 
-/* What was written or copied; or, of the functions that say a length before, what would be written. 24 bytes. */
+/* What was written or copied; of the functions that say a length before, what would be written; or a mended draft. 24 bytes. */
 typedef struct BafirolenWritten {
     uint64_t number;
     uint64_t position;
-    uint64_t length; /* how many bytes, from the first byte of the output on */
+    uint64_t length; /* how many bytes, from the first byte of the output or of the draft on */
 } BafirolenWritten;
 
 #endif

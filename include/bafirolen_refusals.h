@@ -12,13 +12,17 @@
  * BAFIROLEN_REFUSED_PAIR_TABLE_TOO_SHORT, .._KEY_TABLE_TOO_SHORT, .._OUTPUT_TOO_SHORT: lend more, and call again. The answer does
  * not say how much: lend twice as much, or a table of BAFIROLEN_LARGEST_PAIR_TABLE or BAFIROLEN_LARGEST_KEY_TABLE numbers, or of
  * as many as bafirolen_frame_table_len gives for frames. How long an output has to be, bafirolen_header_body_len says of a body and
- * bafirolen_frames_len of frames before they are written, and of all else the writers' comments. The two calls and the listing have
- * tables of their own; where these are too short, call bafirolen_read_header_body.
+ * bafirolen_frames_len of frames before they are written, and of all else the writers' comments; a draft that a key is added to
+ * wants a buffer of its length, 6 bytes, and the key's parts. The two calls and the listing have tables of their own; where these
+ * are too short, call bafirolen_read_header_body.
  *
  * Every other: neither more bytes nor more room change it. From a reader: reject the message (4, 15, 21 and 39 depend on what you
  * asked for). From a writer: correct the fields or frames, or with 31 the required table, and with 39 write the version that the
  * policy asks for; bafirolen_write_only_authenticated is a writer with 31 and 28, and a reader with all others.
  * BAFIROLEN_REFUSED_NOT_FOUND: the context is good and lacks this key.
+ * BAFIROLEN_REFUSED_NO_KEY_REMAINS: the draft is good, and has no key but those that were to be dropped; it still has them. Add
+ * the key of another station first, and then drop them. What else bafirolen_drafts.h refuses of a draft is as from a reader; with
+ * 27, and with 16 where the draft itself can be read, correct the key that was to be added.
  */
 #ifndef BAFIROLEN_REFUSALS_H
 #define BAFIROLEN_REFUSALS_H
@@ -42,7 +46,7 @@ enum BafirolenRefusal {
     BAFIROLEN_REFUSED_KEY_SEEN_BEFORE = 12,
     BAFIROLEN_REFUSED_PAIRS_TOO_LONG = 13, /* in writing alone */
     BAFIROLEN_REFUSED_CONTEXT_LENGTH = 14,
-    BAFIROLEN_REFUSED_TOO_MANY_KEYS = 15, /* encrypted data keys, as in 16, 23 and 38 */
+    BAFIROLEN_REFUSED_TOO_MANY_KEYS = 15, /* encrypted data keys, as in 16, 23, 38 and 40 */
     BAFIROLEN_REFUSED_PROVIDER_ID_NOT_UTF8 = 16,
     BAFIROLEN_REFUSED_CONTENT_TYPE = 17,
     BAFIROLEN_REFUSED_RESERVED_BYTES = 18,
@@ -55,7 +59,7 @@ enum BafirolenRefusal {
     BAFIROLEN_REFUSED_SUITE_DATA_LENGTH = 25, /* 0 bytes in version 1, 32 in version 2 */
     BAFIROLEN_REFUSED_TABLE_OR_PLACE = 26,
     BAFIROLEN_REFUSED_COUNT_OR_PART_TOO_LONG = 27, /* of frames the count alone */
-    BAFIROLEN_REFUSED_OUTPUT_TOO_SHORT = 28,
+    BAFIROLEN_REFUSED_OUTPUT_TOO_SHORT = 28, /* or the buffer of a draft that a key is added to */
     BAFIROLEN_REFUSED_NOT_FOUND = 29,
     BAFIROLEN_REFUSED_TAG_LENGTH = 30, /* of an authentication record, or of a frame */
     BAFIROLEN_REFUSED_REQUIRED_TABLE_OR_PLACE = 31,
@@ -66,7 +70,8 @@ enum BafirolenRefusal {
     BAFIROLEN_REFUSED_NO_FRAME = 36,               /* in writing alone, as 37 */
     BAFIROLEN_REFUSED_REGULAR_CONTENT_LENGTH = 37,
     BAFIROLEN_REFUSED_NO_ENCRYPTED_DATA_KEY = 38, /* in reading and in writing, as 39 */
-    BAFIROLEN_REFUSED_FORBIDDEN_BY_POLICY = 39    /* bafirolen_policy.h says which versions a policy forbids */
+    BAFIROLEN_REFUSED_FORBIDDEN_BY_POLICY = 39,   /* bafirolen_policy.h says which versions a policy forbids */
+    BAFIROLEN_REFUSED_NO_KEY_REMAINS = 40         /* in dropping keys alone */
 };
 
 /* A refusal in words. Any other number has the words for unknown ones. */
@@ -113,6 +118,7 @@ static inline const char *bafirolen_refusal_text(uint64_t number)
         "content of a frame before the last not of the frame length",
         "no encrypted data key",
         "suite forbidden by the policy",
+        "no encrypted data key would remain",
     };
     return number < sizeof texts / sizeof *texts ? texts[number] : "unknown refusal";
 }

@@ -85,13 +85,15 @@ static inline void put_context(struct shape s)
     body.bytes[body.context + 1] = (uint8_t)k;
 }
 
+/* parts of one byte, or of none where the keys are many; the last key alone has another provider ID than the first */
 static inline void put_keys(struct shape s)
 {
     uint32_t i;
     body.keys = body.length;
     put_number(s.keys, 2);
     for (i = 0; i < 3 * s.keys; i++) {
-        put_entry((const uint8_t *)"p", s.keys < 1000, body.key_table + 2 * i);
+        const int last = i + 3 == 3 * s.keys;
+        put_entry((const uint8_t *)(last ? "q" : "p"), last || s.keys < 1000, body.key_table + 2 * i);
     }
 }
 

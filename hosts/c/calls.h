@@ -157,4 +157,20 @@ static void write_only_authenticated(void)
                                                               body.required, 2 * shape.pairs, lent->out, out_len);
 }
 
+/* the body at the front of the output, as a draft: all keys with the ID of the first are dropped, so that just the last remains */
+static void drop_keys(void)
+{
+    memcpy(lent->out, body.bytes, body.length);
+    lent->answer.written =
+        bafirolen_drop_encrypted_data_keys(lent->out, out_len, body.bytes + body.key_table[0], body.key_table[1]);
+}
+
+/* a key whose info and ciphertext are bytes of the body, which the draft was copied from */
+static void add_key(void)
+{
+    memcpy(lent->out, body.bytes, body.length);
+    lent->answer.written =
+        bafirolen_add_encrypted_data_key(lent->out, out_len, (const uint8_t *)"new", 3, body.bytes, 4, body.bytes, 7);
+}
+
 #endif

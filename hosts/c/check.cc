@@ -2,52 +2,21 @@
  * A host in C++: bafirolen.h is included twice, what is empty is lent as an empty vector has it; header H is read, its pairs and
  * keys are gone through, it is measured and written again, as is one with an empty context in the old form, and what is
  * authenticated of its context is written alone; without its key it is refused, and under a policy it is read, measured and
- * written, or refused; it is fetched from a stream; frames are read, gone through, measured and written again. Writes `compared N
- * cases`; a difference is written to standard error, and the exit status is 1.
+ * written, or refused; it is fetched from a stream; as a draft it is given another key, and its own is dropped; frames are read,
+ * gone through, measured and written again. Writes `compared N cases`; a difference is written to standard error, and the exit
+ * status is 1.
  *
  *     rt staticlib bafirolen_c
  *     g++ -std=c++11 -O2 -Wall -Wextra -Wpedantic -Iinclude hosts/c/check.cc target/staticlib/libbafirolen_c.a -o target/check
  */
 #include "bafirolen.h"
 #include "bafirolen.h"
+#include "vectors.h"
 
-#include <iostream>
 #include <map>
 #include <sstream>
-#include <string>
-#include <vector>
 
 namespace {
-
-using Bytes = std::vector<uint8_t>;
-using Table = std::vector<uint32_t>;
-
-unsigned long cases, differences;
-
-template <typename T, typename U> void same(const char *what, const T &got, const U &want)
-{
-    cases++;
-    if (!(got == want)) {
-        differences++;
-        std::cerr << what << " differs\n";
-    }
-}
-
-const Bytes H = {0x01, 0x80, 0x01, 0x78, 0x00, 0x01, 0x02, 0x03, 0x04, 0x05, 0x06, 0x07, 0x08, 0x09, 0x0A,
-                 0x0B, 0x0C, 0x0D, 0x0E, 0x0F, 0x00, 0x0C, 0x00, 0x01, 0x00, 0x04, 0x6C, 0x61, 0x6E, 0x67,
-                 0x00, 0x02, 0x63, 0x79, 0x00, 0x01, 0x00, 0x02, 0x70, 0x31, 0x00, 0x01, 0x61, 0x00, 0x03,
-                 0xAA, 0xBB, 0xCC, 0x02, 0x00, 0x00, 0x00, 0x00, 0x0C, 0x00, 0x00, 0x10, 0x00};
-
-BafirolenBody read(const Bytes &message, Table &pairs, Table &keys, BafirolenMode mode = BAFIROLEN_STRICT)
-{
-    return bafirolen_read_header_body(message.data(), message.size(), 0, BAFIROLEN_EITHER, mode, BAFIROLEN_NO_MAX, 0,
-                                      pairs.data(), pairs.size(), keys.data(), keys.size());
-}
-
-std::string part(const Bytes &message, const uint32_t *place)
-{
-    return std::string(message.begin() + place[0], message.begin() + place[0] + place[1]);
-}
 
 /* the tables are read with room for any header, and cut to what this one has, since a writer takes all of what it is lent */
 void read_and_write_again()
@@ -183,6 +152,31 @@ void fetched()
     same("the rounds of frames", BAFIROLEN_MOST_FRAME_ROUNDS(3), 14u);
 }
 
+/* H as a draft in a vector: its only key stays until there is another, and the vector grows and is cut with the draft */
+void drafts()
+{
+    const Bytes gone = {'p', '1'}, id = {'p', '2'}, info, ciphertext = {0xDD, 0xEE};
+    Bytes draft = H;
+    BafirolenWritten w = bafirolen_drop_encrypted_data_keys(draft.data(), draft.size(), gone.data(), gone.size());
+    same("the only key", w.number == BAFIROLEN_REFUSED_NO_KEY_REMAINS && w.position == 0 && w.length == 0, true);
+    w = bafirolen_add_encrypted_data_key(draft.data(), draft.size(), id.data(), id.size(), info.data(), info.size(),
+                                         ciphertext.data(), ciphertext.size());
+    same("no room for a key", w.number == BAFIROLEN_REFUSED_OUTPUT_TOO_SHORT && w.position == 0 && w.length == 0, true);
+    same("the draft as it was", draft, H);
+    draft.resize(H.size() + 6 + id.size() + info.size() + ciphertext.size());
+    w = bafirolen_add_encrypted_data_key(draft.data(), draft.size(), id.data(), id.size(), info.data(), info.size(),
+                                         ciphertext.data(), ciphertext.size());
+    same("a key added", w.number == 0 && w.position == 0 && w.length == draft.size(), true);
+    w = bafirolen_drop_encrypted_data_keys(draft.data(), draft.size(), gone.data(), gone.size());
+    same("a key dropped", w.number == 0 && w.position == 0 && w.length == 56, true);
+    same("what is freed", Bytes(draft.begin() + 56, draft.end()), Bytes(12));
+    draft.resize(w.length);
+    Bytes want(H.begin(), H.begin() + 34);
+    want.insert(want.end(), {0, 1, 0, 2, 'p', '2', 0, 0, 0, 2, 0xDD, 0xEE});
+    want.insert(want.end(), H.begin() + 48, H.end());
+    same("the mended draft", draft, want);
+}
+
 /* what an empty vector gives for a pointer may be null */
 void empty_vectors()
 {
@@ -278,14 +272,15 @@ int main()
 {
     same("the version of the declarations", bafirolen_version(), uint32_t(BAFIROLEN_VERSION));
     same("the text of a refusal", std::string(bafirolen_refusal_text(BAFIROLEN_REFUSED_NOT_FOUND)), "no pair has the key");
-    same("the text of the last refusal", std::string(bafirolen_refusal_text(39)), "suite forbidden by the policy");
-    same("the text of no refusal", std::string(bafirolen_refusal_text(40)), "unknown refusal");
+    same("the text of the last refusal", std::string(bafirolen_refusal_text(40)), "no encrypted data key would remain");
+    same("the text of no refusal", std::string(bafirolen_refusal_text(41)), "unknown refusal");
     read_and_write_again();
     old_form_again();
     only_authenticated();
     no_key();
     policies();
     fetched();
+    drafts();
     empty_vectors();
     frames();
     std::cout << "compared " << cases << " cases\n" << std::flush;

@@ -1,4 +1,4 @@
-/* Comparing what an operation answers, and what it was lent, with what is wanted; header H; and two frames. */
+/* Comparing what an operation answers, and what it was lent, with what is wanted; header H, one of version 2, and two frames. */
 #ifndef COMPARE_H
 #define COMPARE_H
 
@@ -61,6 +61,17 @@ static const uint32_t H_pairs[4] = {26, 4, 32, 2};
 static const uint32_t H_keys[6] = {38, 2, 42, 1, 45, 3};
 static const char H_listing[] = "header\t1\t80\t0178\t02\t4096\t58\nid\t000102030405060708090a0b0c0d0e0f\n"
                                 "pair\t6c616e67\t6379\nkey\t7031\t61\taabbcc\n";
+
+/* a header of version 2: two pairs, of which one key begins the other, and two equal keys with an empty part */
+static const uint8_t V2[108] = {
+    0x02, 0x05, 0x78,
+    0x20, 0x21, 0x22, 0x23, 0x24, 0x25, 0x26, 0x27, 0x28, 0x29, 0x2A, 0x2B, 0x2C, 0x2D, 0x2E, 0x2F,
+    0x30, 0x31, 0x32, 0x33, 0x34, 0x35, 0x36, 0x37, 0x38, 0x39, 0x3A, 0x3B, 0x3C, 0x3D, 0x3E, 0x3F,
+    0x00, 0x10, 0x00, 0x02, 0x00, 0x01, 0x61, 0x00, 0x01, 0x62, 0x00, 0x02, 0x61, 0x62, 0x00, 0x02, 0xC3, 0xA9,
+    0x00, 0x02, 0x00, 0x01, 0x70, 0x00, 0x00, 0x00, 0x01, 0xAA, 0x00, 0x01, 0x70, 0x00, 0x00, 0x00, 0x01, 0xAA,
+    0x01, 0x00, 0x00, 0x00, 0x00,
+    0x40, 0x41, 0x42, 0x43, 0x44, 0x45, 0x46, 0x47, 0x48, 0x49, 0x4A, 0x4B, 0x4C, 0x4D, 0x4E, 0x4F,
+    0x50, 0x51, 0x52, 0x53, 0x54, 0x55, 0x56, 0x57, 0x58, 0x59, 0x5A, 0x5B, 0x5C, 0x5D, 0x5E, 0x5F};
 
 /* two frames of 3 bytes, the final one of 2: number, IV, content, tag; mark, number, IV, length, content, tag */
 static const uint8_t RUN[77] = {
@@ -194,6 +205,15 @@ static inline size_t header_in_form(uint8_t *m, uint32_t version, uint32_t form,
 static inline size_t bare_header(uint8_t *m, uint32_t version, uint32_t form)
 {
     return header_in_form(m, version, form, H + 34, 14);
+}
+
+/* the same header with an empty context in its old form: its length */
+static inline size_t in_old_form(const uint8_t *header, size_t n, size_t section, uint8_t *m)
+{
+    const size_t behind = section + 2 + header[section + 1];
+    size_t length = append(m, 0, header, section);
+    length = append(m, length, "\0\2\0\0", 4);
+    return append(m, length, header + behind, n - behind);
 }
 
 /* how many cases were compared; the exit status, which is 1 where none was */

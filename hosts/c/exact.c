@@ -7,18 +7,7 @@
  *     gcc -std=c99 -O2 -Wall -Wextra -Iinclude hosts/c/exact.c target/staticlib/libbafirolen_c.a -o target/exact_c
  *     valgrind --error-exitcode=1 target/exact_c
  */
-#include "lending.h"
-
-/* a header of version 2: two pairs, of which one key begins the other, and two equal keys with an empty part */
-static const uint8_t V2[108] = {
-    0x02, 0x05, 0x78,
-    0x20, 0x21, 0x22, 0x23, 0x24, 0x25, 0x26, 0x27, 0x28, 0x29, 0x2A, 0x2B, 0x2C, 0x2D, 0x2E, 0x2F,
-    0x30, 0x31, 0x32, 0x33, 0x34, 0x35, 0x36, 0x37, 0x38, 0x39, 0x3A, 0x3B, 0x3C, 0x3D, 0x3E, 0x3F,
-    0x00, 0x10, 0x00, 0x02, 0x00, 0x01, 0x61, 0x00, 0x01, 0x62, 0x00, 0x02, 0x61, 0x62, 0x00, 0x02, 0xC3, 0xA9,
-    0x00, 0x02, 0x00, 0x01, 0x70, 0x00, 0x00, 0x00, 0x01, 0xAA, 0x00, 0x01, 0x70, 0x00, 0x00, 0x00, 0x01, 0xAA,
-    0x01, 0x00, 0x00, 0x00, 0x00,
-    0x40, 0x41, 0x42, 0x43, 0x44, 0x45, 0x46, 0x47, 0x48, 0x49, 0x4A, 0x4B, 0x4C, 0x4D, 0x4E, 0x4F,
-    0x50, 0x51, 0x52, 0x53, 0x54, 0x55, 0x56, 0x57, 0x58, 0x59, 0x5A, 0x5B, 0x5C, 0x5D, 0x5E, 0x5F};
+#include "drafts.h"
 
 /* without a policy by the function that has none */
 static BafirolenBody body_of(const uint8_t *m, size_t n, uint32_t which, uint32_t mode, uint32_t policy, uint32_t *p, size_t np,
@@ -169,16 +158,6 @@ static void read_past_section(const uint8_t *header, size_t n, size_t section, s
     }
 }
 
-/* an output of `room` bytes holds these n, or none where they have no room, and keeps the others; it is then filled anew */
-static void holds(const char *what, BafirolenWritten w, uint8_t *o, size_t room, const void *bytes, size_t n)
-{
-    const size_t front = room < n ? 0 : n;
-    written_is(what, w, room < n ? BAFIROLEN_REFUSED_OUTPUT_TOO_SHORT : 0, front);
-    same_bytes(what, o, bytes, front);
-    same_bytes(what, o + front, fresh_bytes + front, room - front);
-    memset(o, KEPT, room);
-}
-
 /* a header that was read, measured and written again at every room up to a few bytes more than its length; and the same under a
  * policy that writes its version */
 static void write_again(const uint8_t *m, size_t n)
@@ -214,15 +193,6 @@ static void write_again(const uint8_t *m, size_t n)
         holds("a header under a policy", w, o, room, m, n);
         let_go();
     }
-}
-
-/* the same header with an empty context in its old form: its length */
-static size_t in_old_form(const uint8_t *header, size_t n, size_t section, uint8_t *m)
-{
-    const size_t behind = section + 2 + header[section + 1];
-    size_t length = append(m, 0, header, section);
-    length = append(m, length, "\0\2\0\0", 4);
-    return append(m, length, header + behind, n - behind);
 }
 
 /* the two frames measured and written again at every room up to a few bytes more than their length */
@@ -274,9 +244,25 @@ static void write_parts(void)
     }
 }
 
+/* every cut of a draft, and buffers with some room behind it: keys that it has or has not are dropped, and each is added */
+static void mend_cuts(const uint8_t *header, size_t n)
+{
+    static const struct key asked[] = {KEY("p1", "a", "\xAA\xBB\xCC"), KEY("p", "", "\xAA"), KEY("", "", ""), KEY("\xFF", "", "")};
+    uint8_t m[BYTES];
+    size_t i, cut;
+    memset(m, KEPT, sizeof m);
+    memcpy(m, header, n);
+    for (i = 0; i < COUNT(asked); i++) {
+        for (cut = 0; cut <= n + 20; cut++) {
+            mends_alike(m, cut, &asked[i]);
+        }
+    }
+}
+
 int main(void)
 {
-    uint8_t old[sizeof V2], keyless[sizeof V2];
+    uint8_t old[sizeof V2], keyless[sizeof V2], two[BYTES];
+    static const struct key both[] = {KEY("p1", "", "\xAA"), KEY("p", "a", "")};
     size_t length;
     read_cuts(H, sizeof H, 1, 1);
     read_cuts(V2, sizeof V2, 2, 2);
@@ -288,9 +274,13 @@ int main(void)
     length = in_old_form(H, sizeof H, 20, old);
     read_cuts(old, length, 1, 1);
     write_again(old, length);
+    mend_cuts(old, length);
     write_again(old, in_old_form(V2, sizeof V2, 35, old));
     write_parts();
     read_frame_cuts();
     write_frames_again();
+    mend_cuts(H, sizeof H);
+    mend_cuts(V2, sizeof V2);
+    mend_cuts(two, draft_of(two, 1, 1, both, 2));
     return compared();
 }

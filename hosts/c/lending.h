@@ -48,4 +48,14 @@ static inline void let_go(void)
     }
 }
 
+/* an output of `room` bytes holds these n, or none where they have no room, and keeps the others; it is then filled anew */
+static inline void holds(const char *what, BafirolenWritten w, uint8_t *o, size_t room, const void *bytes, size_t n)
+{
+    const size_t front = room < n ? 0 : n;
+    written_is(what, w, room < n ? BAFIROLEN_REFUSED_OUTPUT_TOO_SHORT : 0, front);
+    same_bytes(what, o, bytes, front);
+    same_bytes(what, o + front, fresh_bytes + front, room - front);
+    memset(o, KEPT, room);
+}
+
 #endif

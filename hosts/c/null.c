@@ -178,13 +178,38 @@ static void required_keys(void)
     output_is("the empty key required", HOLLOW + 37, 6);
 }
 
-/* a header that is lent whole is accepted by each reader and written by each writer, or the sets above would show little; one
- * without a key is refused by each that reads or writes its keys, and accepted by the others */
+/* no draft; a key whose ID has no byte dropped; and a key of no byte added, into no room and into some, and dropped again */
+static void drafts(void)
+{
+    uint8_t longer[BYTES] = {0};
+    const size_t n = header_of(longer, 1, H + 20, 14, "\0\2\0\2p1\0\1a\0\3\xAA\xBB\xCC\0\0\0\0\0\0", 20);
+    written_at("no draft", bafirolen_drop_encrypted_data_keys(NULL, 0, NULL, 0), BAFIROLEN_REFUSED_SHORTAGE, 1, 0);
+    written_at("no draft", bafirolen_add_encrypted_data_key(NULL, 0, NULL, 0, NULL, 0, NULL, 0), BAFIROLEN_REFUSED_SHORTAGE, 1, 0);
+    fresh();
+    memcpy(out, BARE, sizeof BARE);
+    written_is("no key remains", bafirolen_drop_encrypted_data_keys(out, BYTES, NULL, 0), BAFIROLEN_REFUSED_NO_KEY_REMAINS, 0);
+    output_is("no key remains", BARE, sizeof BARE);
+    fresh();
+    memcpy(out, H, sizeof H);
+    written_is("no such key", bafirolen_drop_encrypted_data_keys(out, BYTES, NULL, 0), 0, sizeof H);
+    written_is("no room for a key", bafirolen_add_encrypted_data_key(out, sizeof H, NULL, 0, NULL, 0, NULL, 0),
+               BAFIROLEN_REFUSED_OUTPUT_TOO_SHORT, 0);
+    output_is("no room for a key", H, sizeof H);
+    written_is("a key of no byte", bafirolen_add_encrypted_data_key(out, BYTES, NULL, 0, NULL, 0, NULL, 0), 0, n);
+    output_is("a key of no byte", longer, n);
+    written_is("dropped again", bafirolen_drop_encrypted_data_keys(out, BYTES, NULL, 0), 0, sizeof H);
+    memset(longer, 0, sizeof longer);
+    memcpy(longer, H, sizeof H);
+    output_is("dropped again", longer, n);
+}
+
+/* a header that is lent whole is accepted by each reader, written by each writer and mended, or the sets above would show little;
+ * one without a key is refused by each that reads or writes its keys, and accepted by the others */
 static void whole(const struct export *e)
 {
     const int under = e->call == read_body_under || e->call == write_body_under || e->call == body_length_under;
     const int of_keys = e->call == number || e->call == read_body || e->call == read_keys || e->call == write_keys
-                        || e->call == write_body || e->call == body_length || under;
+                        || e->call == write_body || e->call == body_length || e->call == drop_keys || e->call == add_key || under;
     ask(e->call, 0, NULL);
     if (h->key_numbers == 0 && of_keys) {
         same(e->name, answer.record.number, BAFIROLEN_REFUSED_NO_ENCRYPTED_DATA_KEY);
@@ -214,6 +239,7 @@ int main(void)
     forbidden();
     frames();
     required_keys();
+    drafts();
     free(allocated);
     return compared();
 }

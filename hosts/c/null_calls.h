@@ -149,6 +149,20 @@ static void write_only_authenticated(void)
                                                                LENT(2, required, COUNT(required)), LENT(3, out, BYTES));
 }
 
+/* the header at the front of the output, which is the buffer of a draft; an ID that it does not have, so that a key remains */
+static void drop_keys(void)
+{
+    memcpy(out, h->bytes, h->length);
+    answer.record.written = bafirolen_drop_encrypted_data_keys(LENT(0, out, BYTES), LENT(1, "absent", 6));
+}
+
+static void add_key(void)
+{
+    memcpy(out, h->bytes, h->length);
+    answer.record.written =
+        bafirolen_add_encrypted_data_key(LENT(0, out, BYTES), LENT(1, "p2", 2), LENT(2, "b", 1), LENT(3, "\xDD", 1));
+}
+
 static const struct export {
     const char *name;
     void (*call)(void);
@@ -173,6 +187,8 @@ static const struct export {
                {"bafirolen_read_header_body_under_policy", read_body_under, 3},
                {"bafirolen_write_header_body_under_policy", write_body_under, 6},
                {"bafirolen_header_body_len_under_policy", body_length_under, 5},
-               {"bafirolen_write_only_authenticated", write_only_authenticated, 4}};
+               {"bafirolen_write_only_authenticated", write_only_authenticated, 4},
+               {"bafirolen_drop_encrypted_data_keys", drop_keys, 2},
+               {"bafirolen_add_encrypted_data_key", add_key, 4}};
 
 #endif

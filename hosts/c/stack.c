@@ -52,7 +52,9 @@ static struct export {
                {"bafirolen_header_body_len", body_length, BAFIROLEN_STACK_WRITE, 0},
                {"bafirolen_read_header_body_under_policy", read_body_under, BAFIROLEN_STACK_READ, 0},
                {"bafirolen_write_header_body_under_policy", write_body_under, BAFIROLEN_STACK_WRITE, 0},
-               {"bafirolen_header_body_len_under_policy", body_length_under, BAFIROLEN_STACK_WRITE, 0}};
+               {"bafirolen_header_body_len_under_policy", body_length_under, BAFIROLEN_STACK_WRITE, 0},
+               {"bafirolen_drop_encrypted_data_keys", drop_keys, BAFIROLEN_STACK_READ, 0},
+               {"bafirolen_add_encrypted_data_key", add_key, BAFIROLEN_STACK_READ, 0}};
 
 /* the stack's lowest byte, above the guard; and what is written where a call reaches the guard */
 static uint8_t *lowest;
@@ -130,6 +132,20 @@ static void frames_accepted(const struct export *e)
     }
 }
 
+/* a draft that has several keys keeps its last one; one that has as many as there can be takes no other */
+static void mended(const struct export *e)
+{
+    const int drops = e->call == drop_keys;
+    const uint64_t number = shape.keys == 0                   ? BAFIROLEN_REFUSED_NO_ENCRYPTED_DATA_KEY
+                          : drops && shape.keys == 1          ? BAFIROLEN_REFUSED_NO_KEY_REMAINS
+                          : !drops && shape.keys == MOST_KEYS ? BAFIROLEN_REFUSED_COUNT_OR_PART_TOO_LONG
+                                                              : BAFIROLEN_ACCEPTED;
+    const size_t dropped = (shape.keys - 1) * (shape.keys < 1000 ? 9 : 6);
+    const size_t length = drops ? body.length - dropped : body.length + 20;
+    same(e->name, at_the_end.answer.number, number);
+    same(e->name, at_the_end.answer.written.length, number == BAFIROLEN_ACCEPTED ? length : 0);
+}
+
 /* a body without a fault is accepted: what takes the most stack is not left out by a refusal; and where there is no key, those
  * that read or write keys refuse it */
 static void accepted(const struct export *e)
@@ -140,15 +156,16 @@ static void accepted(const struct export *e)
     const int measures = e->call == body_length || e->call == body_length_under;
     const int of_keys = e->call == read_body || e->call == read_body_under || e->call == read_keys || e->call == write_keys
                         || writes || measures;
-    if (e->call == write_frames || e->call == frames_length) {
-        if (shape.fault == NO_FAULT) {
-            frames_accepted(e);
-        }
+    if (shape.fault != NO_FAULT) {
         return;
     }
-    if (shape.fault == NO_FAULT && shape.keys == 0 && (of_keys || e->call == number)) {
+    if (e->call == write_frames || e->call == frames_length) {
+        frames_accepted(e);
+    } else if (e->call == drop_keys || e->call == add_key) {
+        mended(e);
+    } else if (shape.keys == 0 && (of_keys || e->call == number)) {
         same(e->name, at_the_end.answer.number, BAFIROLEN_REFUSED_NO_ENCRYPTED_DATA_KEY);
-    } else if (shape.fault == NO_FAULT && !bare && !(finds && (shape.pairs == 0 || find_key == absent))) {
+    } else if (!bare && !(finds && (shape.pairs == 0 || find_key == absent))) {
         same(e->name, at_the_end.answer.number, BAFIROLEN_ACCEPTED);
         if (writes || measures) {
             same(e->name, at_the_end.answer.written.length, body.length);

@@ -9,7 +9,7 @@
 
 #include <stdlib.h>
 
-#define REFUSALS 39
+#define REFUSALS 40
 
 static void text_is(uint64_t number, const char *want)
 {

@@ -1,7 +1,8 @@
 //! The proved operations as they cross the boundary to C: a lent slice is a
 //! pointer and a length, a record is passed and returned by value.
-//! `include/bafirolen.h` and `include/bafirolen_policy.h` have the same
-//! declarations for C; the crate `bafirolen` has safe functions over these.
+//! `include/bafirolen.h`, `include/bafirolen_policy.h` and
+//! `include/bafirolen_drafts.h` have the same declarations for C; the crate
+//! `bafirolen` has safe functions over these.
 //!
 //! # Safety
 //!
@@ -22,9 +23,11 @@
 #![no_std]
 #![deny(missing_docs)]
 
+mod drafts;
 mod policy;
 mod records;
 
+pub use drafts::*;
 pub use policy::*;
 pub use records::{
     BafirolenAuth, BafirolenBody, BafirolenNumbers, BafirolenPlace, BafirolenSection,
@@ -32,8 +35,8 @@ pub use records::{
 };
 
 /// The declarations here are those of an archive whose [`bafirolen_version`]
-/// answers this. A host of version 8 knows no refusal 39.
-pub const VERSION: u32 = 9;
+/// answers this. A host of version 9 knows no refusal 40.
+pub const VERSION: u32 = 10;
 
 extern "C" {
     /// Which declarations the archive was made for.

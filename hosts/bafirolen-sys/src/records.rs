@@ -100,7 +100,7 @@ pub struct BafirolenPlace {
     pub len: u64,
 }
 
-/// What was written or copied, or would be written.
+/// What was written or copied, or would be written; or a mended draft.
 #[repr(C)]
 #[derive(Clone, Copy, Debug, PartialEq, Eq)]
 #[must_use]
@@ -109,6 +109,6 @@ pub struct BafirolenWritten {
     pub number: u64,
     /// The position of a shortage.
     pub position: u64,
-    /// How many bytes, from the output's first on.
+    /// How many bytes, from the first of the output or of the draft on.
     pub length: u64,
 }

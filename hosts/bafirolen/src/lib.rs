@@ -12,9 +12,10 @@
 //!
 //! # Lending
 //!
-//! No function but [`header_body_to_vec`] and [`frames_to_vec`] allocates, and
-//! none keeps anything. A reader takes a message and the place where it starts,
-//! and fills lent tables of numbers with the places of what it read:
+//! No function but [`header_body_to_vec`], [`frames_to_vec`] and
+//! [`add_encrypted_data_key_to_vec`] allocates, and none keeps anything. A
+//! reader takes a message and the place where it starts, and fills lent tables of
+//! numbers with the places of what it read:
 //! [`NUMBERS_PER_PAIR`] numbers for each pair of the encryption context,
 //! [`NUMBERS_PER_KEY`] for each encrypted data key, [`NUMBERS_PER_FRAME`] for
 //! each frame. Its answer borrows both, and gives the pairs, keys and frames as
@@ -96,6 +97,13 @@
 //! cipher gave. Up to 65,535 frames that were read are written again, from their
 //! [`frame_table`](Frames::frame_table), to the bytes that were read.
 //!
+//! # Mending
+//!
+//! A body that is written and not yet sealed is mended in the buffer in which it
+//! stands: [`drop_encrypted_data_keys`] takes the keys of a departed station out,
+//! and [`add_encrypted_data_key`] puts one behind the others. All else stays as
+//! it was written.
+//!
 //! # Refusals
 //!
 //! Whatever is handed in, a function accepts it or answers one [`Refusal`].
@@ -135,9 +143,9 @@
 //!
 //! The archive holds x86-64 code for Linux. The crate needs Rust 1.87 or later.
 //! It uses `core`, and with its feature `alloc`, which is on by default, the
-//! crate `alloc` for [`header_body_to_vec`] and [`frames_to_vec`], which are all
-//! that the feature adds. Without default features `core` is all, and no
-//! allocator is needed.
+//! crate `alloc` for [`header_body_to_vec`], [`frames_to_vec`] and
+//! [`add_encrypted_data_key_to_vec`], which are all that the feature adds.
+//! Without default features `core` is all, and no allocator is needed.
 #![no_std]
 #![deny(missing_docs)]
 
@@ -155,6 +163,7 @@ mod form;
 mod frame_writes;
 mod frames;
 mod host;
+mod mending;
 mod only_authenticated;
 mod parts;
 mod place;
@@ -181,6 +190,9 @@ pub use frame_writes::frames_to_vec;
 pub use frame_writes::{frames_len, write_frames};
 pub use frames::{read_frames, Frame, Frames};
 pub use host::{header_number, header_position, version, write_listing};
+#[cfg(feature = "alloc")]
+pub use mending::add_encrypted_data_key_to_vec;
+pub use mending::{add_encrypted_data_key, drop_encrypted_data_keys};
 pub use only_authenticated::write_only_authenticated;
 pub use parts::{Key, Keys, Pair, Pairs};
 pub use place::Place;

@@ -15,8 +15,10 @@ pub struct Pair<'m> {
     pub value: &'m [u8],
 }
 
-/// An encrypted data key. The provider ID was found to be UTF-8, so
-/// `core::str::from_utf8` can't fail on it; the other parts are any bytes.
+/// An encrypted data key, as it was read, or as it is to be
+/// [added](crate::add_encrypted_data_key). Of one that was read the provider ID
+/// was found to be UTF-8, so `core::str::from_utf8` can't fail on it; the other
+/// parts are any bytes.
 #[derive(Clone, Copy, Debug, PartialEq, Eq, Hash)]
 pub struct Key<'m> {
     /// Who provides the key.

@@ -48,7 +48,7 @@ macro_rules! refusals {
         }
 
         impl Refusal {
-            /// The refusal's number, 1 to 39 where it is listed.
+            /// The refusal's number, 1 to 40 where it is listed.
             #[must_use]
             pub const fn number(&self) -> u32 {
                 match self {
@@ -132,6 +132,7 @@ refusals! {
     37 RegularContentLength "content of a frame before the last not of the frame length",
     38 NoEncryptedDataKey "no encrypted data key",
     39 ForbiddenByPolicy "suite forbidden by the policy",
+    40 NoKeyRemains "no encrypted data key would remain",
 }
 
 impl Refusal {

@@ -34,8 +34,9 @@ pub enum Remedy {
         position: u64,
     },
     /// 22, 23, 28: no earlier test refused, and the lent pair table, the table
-    /// of keys or frames, or the output is too short for the answer: the variant
-    /// says which. Lend a longer one and ask again; how much longer is not said.
+    /// of keys or frames, or the output, or the buffer of a draft that a key is
+    /// added to, is too short for the answer: the variant says which. Lend a
+    /// longer one and ask again; how much longer is not said.
     /// Tables of [`LARGEST_PAIR_TABLE`](crate::LARGEST_PAIR_TABLE) and
     /// [`LARGEST_KEY_TABLE`](crate::LARGEST_KEY_TABLE) numbers always suffice,
     /// and for frames as many as [`frame_table_len`](crate::frame_table_len)
@@ -51,6 +52,7 @@ pub enum Remedy {
     /// is good and lacks it. 38 and 39 are a reader's and a writer's: a message
     /// without an encrypted data key is rejected, and a draft is given one; a
     /// message of a version that the policy forbids is rejected, and a draft is
-    /// made one of the other version.
+    /// made one of the other version. 40 is answered where keys are dropped: the
+    /// draft is good and still has them; another station's key is added first.
     Reject,
 }

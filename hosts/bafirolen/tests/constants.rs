@@ -3,8 +3,9 @@
 use bafirolen::*;
 
 const POLICIES: &str = include_str!("../../../include/bafirolen_policy.h");
-const HEADERS: [&str; 4] = [
+const HEADERS: [&str; 5] = [
     include_str!("../../../include/bafirolen.h"),
+    include_str!("../../../include/bafirolen_drafts.h"),
     include_str!("../../../include/bafirolen_fetch.h"),
     include_str!("../../../include/bafirolen_records.h"),
     POLICIES,

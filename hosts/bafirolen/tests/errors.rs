@@ -1,12 +1,13 @@
 //! The functions' lists of refusals under 'Errors' are those that the
 //! comparisons hold each operation to, in the documents' order of tests.
 //! (`copy_value` and `find_bytes` refer to `find_value` for theirs, and the
-//! first adds 28; `header_body_to_vec` and `frames_to_vec` refer to the lengths.)
+//! first adds 28; `header_body_to_vec` and `frames_to_vec` refer to the lengths,
+//! `add_encrypted_data_key_to_vec` to the function that it calls.)
 
 use bafirolen::Refusal;
 use report::{assert_said, LISTED};
 
-const SOURCES: [&str; 10] = [
+const SOURCES: [&str; 11] = [
     include_str!("../src/auth.rs"),
     include_str!("../src/body.rs"),
     include_str!("../src/body_len.rs"),
@@ -14,13 +15,14 @@ const SOURCES: [&str; 10] = [
     include_str!("../src/frame_writes.rs"),
     include_str!("../src/frames.rs"),
     include_str!("../src/host.rs"),
+    include_str!("../src/mending.rs"),
     include_str!("../src/only_authenticated.rs"),
     include_str!("../src/sections.rs"),
     include_str!("../src/writes.rs"),
 ];
 
 /// A function, and what its operations in the comparisons begin with.
-const ROWS: [(&str, &str); 15] = [
+const ROWS: [(&str, &str); 17] = [
     ("read_aad_section", "read section"),
     ("read_encrypted_data_keys_section", "read keys"),
     ("read_header_body", "read body"),
@@ -36,6 +38,8 @@ const ROWS: [(&str, &str); 15] = [
     ("frames_len", "frames length"),
     ("write_listing", "write listing"),
     ("write_only_authenticated", "write only authenticated"),
+    ("drop_encrypted_data_keys", "drop keys"),
+    ("add_encrypted_data_key", "add key"),
 ];
 
 /// What stands under 'Errors' over the function, as one line.
@@ -91,6 +95,11 @@ fn some_refer_to_others() {
         ("copy_value", "find_value", &[28][..]),
         ("header_body_to_vec", "header_body_len", &[][..]),
         ("frames_to_vec", "frames_len", &[][..]),
+        (
+            "add_encrypted_data_key_to_vec",
+            "add_encrypted_data_key",
+            &[][..],
+        ),
     ] {
         let list = errors(function);
         let those = format!("Those of [`{other}`]");

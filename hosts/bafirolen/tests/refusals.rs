@@ -6,7 +6,7 @@ use std::error::Error;
 const README: &str = include_str!("../../../README.md");
 
 /// Every refusal in the order of its number.
-const ALL: [Refusal; 39] = [
+const ALL: [Refusal; 40] = [
     Refusal::NotAddressable,
     Refusal::Shortage { position: 0 },
     Refusal::UnknownVersion,
@@ -46,6 +46,7 @@ const ALL: [Refusal; 39] = [
     Refusal::RegularContentLength,
     Refusal::NoEncryptedDataKey,
     Refusal::ForbiddenByPolicy,
+    Refusal::NoKeyRemains,
 ];
 
 #[test]
@@ -79,7 +80,7 @@ fn numbers_and_positions_are_kept() {
         assert_eq!((other.number(), other.position()), (number, 7));
         assert_eq!(matches!(other, Refusal::Unlisted { .. }), number != 2);
     }
-    for number in [0, 40, 256, 258, u32::MAX] {
+    for number in [0, 41, 256, 258, u32::MAX] {
         for position in [0, 9] {
             let refusal = Refusal::from_number(number, position);
             assert_eq!(refusal, Refusal::Unlisted { number, position });
@@ -101,7 +102,7 @@ fn each_has_its_remedy() {
     }
     let far = Refusal::Shortage { position: 1 << 32 };
     assert_eq!(far.remedy(), Remedy::Wait { position: 1 << 32 });
-    assert_eq!(Refusal::from_number(40, 5).remedy(), Remedy::Reject);
+    assert_eq!(Refusal::from_number(41, 5).remedy(), Remedy::Reject);
 }
 
 #[test]

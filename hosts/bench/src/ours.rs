@@ -2,7 +2,7 @@
 //! record would be copied, and the copy measured too.
 
 use crate::answer::told;
-use bafirolen::{Draft, Form, Mode, Numbers, Policy, Refusal, Request};
+use bafirolen::{Draft, Form, Key, Mode, Numbers, Policy, Refusal, Request};
 use generator::fields::Fields;
 use generator::image;
 use generator::tables::Lent;
@@ -211,6 +211,29 @@ pub fn refile_body(message: &[u8], pairs: &mut [u32], keys: &mut [u32], out: &mu
         bafirolen::read_header_body(message, 0, Request::default(), pairs, keys)
             .and_then(|body| bafirolen::write_header_body(&body.draft(), out))
             .map(|length| length as u64)
+            .map_err(number),
+    )
+}
+
+#[inline]
+pub fn drop_keys(draft: &mut [u8], provider_id: &[u8]) -> u64 {
+    told(
+        bafirolen::drop_encrypted_data_keys(draft, provider_id)
+            .map(|tail| tail as u64)
+            .map_err(number),
+    )
+}
+
+#[inline]
+pub fn add_key(draft: &mut [u8], [id, info, ciphertext]: &generator::Key) -> u64 {
+    let key = Key {
+        provider_id: id,
+        provider_info: info,
+        ciphertext,
+    };
+    told(
+        bafirolen::add_encrypted_data_key(draft, key)
+            .map(|tail| tail as u64)
             .map_err(number),
     )
 }

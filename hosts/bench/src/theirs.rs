@@ -4,6 +4,7 @@
 use crate::answer::told;
 use generator::fields::Fields;
 use generator::tables::Lent;
+use generator::Key;
 use reference::{Body, Draft, Mode, Numbers, Policy, Refusal, Request, Which};
 
 fn number(refusal: Refusal) -> u32 {
@@ -168,6 +169,16 @@ fn write_again(
     let pairs = &pairs[..4 * body.pairs as usize];
     let keys = &keys[..6 * body.keys as usize];
     reference::write_header_body(&body.numbers(), id, data, message, pairs, keys, out)
+}
+
+#[inline]
+pub fn drop_keys(draft: &mut [u8], provider_id: &[u8]) -> u64 {
+    told(reference::drop_encrypted_data_keys(draft, provider_id).map_err(number))
+}
+
+#[inline]
+pub fn add_key(draft: &mut [u8], [id, info, ciphertext]: &Key) -> u64 {
+    told(reference::add_encrypted_data_key(draft, id, info, ciphertext).map_err(number))
 }
 
 #[inline]

@@ -13,7 +13,7 @@ use generator::rows::{Asked, Body, Codec, Lent, Place, Record, Refused, Section,
 pub struct Both;
 
 /// An answer as the rows have it.
-fn row<T, R>(answer: Answer<T>, accepted: impl FnOnce(T) -> R) -> Result<R, Refused> {
+pub(crate) fn row<T, R>(answer: Answer<T>, accepted: impl FnOnce(T) -> R) -> Result<R, Refused> {
     let refused = answered(&answer);
     answer.map(accepted).map_err(|_| refused)
 }
@@ -44,7 +44,8 @@ pub(crate) fn crossed(asked: Asked) -> crossing::Asked {
     }
 }
 
-fn written((answer, after): (Answer<usize>, Vec<u8>), out: &mut [u8]) -> Written {
+/// What was written, copied to the output that is lent.
+pub(crate) fn written((answer, after): (Answer<usize>, Vec<u8>), out: &mut [u8]) -> Written {
     out.copy_from_slice(&after);
     row(answer, |length| length as u64)
 }

@@ -1,5 +1,6 @@
 //! Bodies read, measured and written by the functions as they cross the
-//! boundary: under the policy of a number, or by those that take none.
+//! boundary: under the policy of a number, or by those that take none; and
+//! drafts mended.
 #![allow(unsafe_code)]
 
 use crate::records::numbers;
@@ -89,5 +90,23 @@ pub fn write(lent: Lent, policy: Option<u32>, out: &mut [u8]) -> BafirolenWritte
                 keys, keys_len, out, out_len,
             ),
         }
+    }
+}
+
+pub fn drop_keys(draft: &mut [u8], provider_id: &[u8]) -> BafirolenWritten {
+    let (draft, draft_len) = (draft.as_mut_ptr(), draft.len());
+    let (id, id_len) = (provider_id.as_ptr(), provider_id.len());
+    // SAFETY: pointers and lengths are those of slices; the draft is borrowed
+    // alone, so it overlaps nothing.
+    unsafe { bafirolen_drop_encrypted_data_keys(draft, draft_len, id, id_len) }
+}
+
+/// The key by its provider ID, provider info and ciphertext.
+pub fn add_key(draft: &mut [u8], key: [&[u8]; 3]) -> BafirolenWritten {
+    let (draft, draft_len) = (draft.as_mut_ptr(), draft.len());
+    let [(id, id_len), (info, info_len), (bytes, len)] = key.map(|p| (p.as_ptr(), p.len()));
+    // SAFETY: as for `drop_keys`.
+    unsafe {
+        bafirolen_add_encrypted_data_key(draft, draft_len, id, id_len, info, info_len, bytes, len)
     }
 }

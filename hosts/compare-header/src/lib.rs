@@ -8,8 +8,8 @@
 //! and written into outputs that just hold it and just don't.
 //!
 //! `under_policy` does the same with bodies under a policy, by its number, and
-//! with the records as they cross: a wrapper has no unknown policy. For that
-//! `crossing`, and nothing else here, is unsafe.
+//! `mends` with drafts, both with the records as they cross: a wrapper has no
+//! unknown policy. For that `crossing`, and nothing else here, is unsafe.
 //!
 //! `fetched` asks one request to read of longer and longer fronts of a message,
 //! and holds the answers to what the shorter ones promise of the longer.
@@ -24,6 +24,7 @@ pub mod fetched;
 pub mod guarded;
 pub mod kept;
 pub mod lengths;
+pub mod mends;
 pub mod numbers;
 mod parts;
 pub mod reads;

@@ -254,7 +254,8 @@ fn faulty(random: &mut Random) -> BodyCase {
     }
 }
 
-fn reserved(random: &mut Random, wrong: bool) -> [u8; 4] {
+/// The reserved bytes, of which one is wrong or none.
+pub(crate) fn reserved(random: &mut Random, wrong: bool) -> [u8; 4] {
     let mut reserved = [0; 4];
     if wrong {
         reserved[random.index(4)] = 1 + random.below(255) as u8;
@@ -263,7 +264,7 @@ fn reserved(random: &mut Random, wrong: bool) -> [u8; 4] {
 }
 
 /// Makes fields wrong by the numbers of the refusals they bring about.
-fn spoil(random: &mut Random, fields: &mut Fields, faults: &[u32]) {
+pub(crate) fn spoil(random: &mut Random, fields: &mut Fields, faults: &[u32]) {
     for &fault in faults {
         match fault {
             5 => fields.message_type = byte_but(random, &[0x80]),

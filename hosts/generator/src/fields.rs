@@ -118,20 +118,26 @@ pub fn pairs(random: &mut Random, most: usize) -> Vec<Pair> {
 
 /// A key that begins another, or that another begins.
 fn near_key(random: &mut Random, pairs: &[Pair]) -> Vec<u8> {
-    let mut key = pairs[random.index(pairs.len())].0.clone();
+    let at = random.index(pairs.len());
+    near(random, &pairs[at].0)
+}
+
+/// A text that begins another, or that the other begins; some are equal to it.
+pub fn near(random: &mut Random, other: &[u8]) -> Vec<u8> {
+    let mut text = other.to_vec();
     if random.one_in(2) {
         let added = 1 + random.index(3);
-        key.extend(text_of(random, added));
+        text.extend(text_of(random, added));
     } else {
         // Only ASCII may go, so that no character is torn.
-        while key.last().is_some_and(|byte| *byte < 0x80) {
-            key.pop();
+        while text.last().is_some_and(|byte| *byte < 0x80) {
+            text.pop();
             if random.one_in(2) {
                 break;
             }
         }
     }
-    key
+    text
 }
 
 /// Keys, at least one, some of them equal.

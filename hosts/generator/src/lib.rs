@@ -10,6 +10,7 @@
 pub mod auth_cases;
 pub mod body_cases;
 pub mod body_write_cases;
+pub mod drafts;
 pub mod faults;
 pub mod fields;
 pub mod frame_cases;
@@ -23,6 +24,7 @@ pub mod key_cases;
 pub mod large;
 pub mod lines;
 pub mod many;
+pub mod mending_cases;
 pub mod only_cases;
 pub mod policies;
 pub mod policy_cases;

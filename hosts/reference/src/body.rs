@@ -86,9 +86,7 @@ pub fn read_header_body(
     read_header_body_under_policy(message, start, request, pairs, keys)
 }
 
-/// Reads a header body: 1; 2, 3; 4; version 1: 2, 5; 2, 6; 7; 39; 2 at the ID;
-/// the context's but 22; the keys' but 23; 2, 17; version 1: 2, 18, 2, 19; 2 at
-/// the frame length; version 2: 2 at the suite data; 20; 22; 23.
+/// Reads a header body: all of its tests, which end in 22 and 23.
 ///
 /// The one-version readers take the mode as well. Tolerant, they are the
 /// readers of one version as the source has them; strict, they also refuse
@@ -99,6 +97,28 @@ pub fn read_header_body_under_policy(
     request: Request,
     pairs: &mut [u32],
     keys: &mut [u32],
+) -> Result<Body, Refusal> {
+    read(message, start, request, Some((pairs, keys)))
+}
+
+/// Reads a header body without tables: all of its tests but 22 and 23.
+pub(crate) fn read_without_tables(
+    message: &[u8],
+    start: u64,
+    request: Request,
+) -> Result<Body, Refusal> {
+    read(message, start, request, None)
+}
+
+/// 1; 2, 3; 4; version 1: 2, 5; 2, 6; 7; 39; 2 at the ID; the context's but 22;
+/// the keys' but 23; 2, 17; version 1: 2, 18, 2, 19; 2 at the frame length;
+/// version 2: 2 at the suite data; 20; of the tables 22; 23.
+#[inline]
+fn read(
+    message: &[u8],
+    start: u64,
+    request: Request,
+    tables: Option<(&mut [u32], &mut [u32])>,
 ) -> Result<Body, Refusal> {
     test_sizes(message, start)?;
     let (version, at) = read_version(message, start, request.which)?;
@@ -128,14 +148,16 @@ pub fn read_header_body_under_policy(
         return Err(Refusal::of(FRAME_LENGTH));
     }
     // The tables come last, so that a short one never hides a bad header.
-    if !pair_section.fits(pairs) {
-        return Err(Refusal::of(PAIR_TABLE));
+    if let Some((pairs, keys)) = tables {
+        if !pair_section.fits(pairs) {
+            return Err(Refusal::of(PAIR_TABLE));
+        }
+        if !key_section.fits(keys) {
+            return Err(Refusal::of(KEY_TABLE));
+        }
+        pair_section.fill(message, pairs);
+        key_section.fill(message, keys);
     }
-    if !key_section.fits(keys) {
-        return Err(Refusal::of(KEY_TABLE));
-    }
-    pair_section.fill(message, pairs);
-    key_section.fill(message, keys);
     Ok(Body {
         version,
         message_type,

@@ -1,6 +1,6 @@
 //! The section of encrypted data keys, read and written.
 
-use crate::leaves::{part, put, put_entry, read_entry, read_u16};
+use crate::leaves::{part, put, put_entry, read_entry, read_u16, Place};
 use crate::refusal::*;
 use crate::tables::{put_place, test_table, text_part, NUMBERS_A_KEY};
 use crate::utf8::is_utf8;
@@ -39,6 +39,23 @@ impl Section {
             at = place.end();
         }
     }
+}
+
+/// The places of each key's provider ID, provider info and ciphertext, in a
+/// section that was read, by its count and the place of its first key.
+pub(crate) fn places(
+    message: &[u8],
+    count: u32,
+    first_key: u64,
+) -> impl Iterator<Item = [Place; 3]> + '_ {
+    let mut at = first_key;
+    (0..count).map_while(move |_| {
+        let provider = read_entry(message, at, None).ok()?;
+        let info = read_entry(message, provider.end(), None).ok()?;
+        let ciphertext = read_entry(message, info.end(), None).ok()?;
+        at = ciphertext.end();
+        Some([provider, info, ciphertext])
+    })
 }
 
 /// All tests of a key section but 1 and 23, in order. The count is tested

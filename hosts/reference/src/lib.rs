@@ -2,9 +2,9 @@
 //! behind them.
 //!
 //! Readers hand out places in the lent message and fill lent tables of
-//! 32-bit numbers; writers fill a lent output from its first byte. An
-//! operation that refuses changes nothing it was lent: each one first tests
-//! everything, then fills.
+//! 32-bit numbers; writers fill a lent output from its first byte; a draft is
+//! mended in the buffer that it stands in. An operation that refuses changes
+//! nothing it was lent: each one first tests everything, then fills.
 //!
 //! Numbers that are fields (version, suite and so on) are `u32` throughout,
 //! so that a caller can hand in one wider than its stored form; it is refused
@@ -23,6 +23,7 @@ pub mod frames_write;
 pub mod keys;
 pub mod leaves;
 pub mod listing;
+pub mod mending;
 pub mod only_authenticated;
 pub mod policy;
 pub mod refusal;
@@ -45,6 +46,7 @@ pub use leaves::{
     write_entry, write_u16, write_u32, Place,
 };
 pub use listing::{host_answer, listing, write_listing};
+pub use mending::{add_encrypted_data_key, drop_encrypted_data_keys};
 pub use only_authenticated::write_only_authenticated;
 pub use policy::Policy;
 pub use refusal::Refusal;

@@ -65,6 +65,7 @@ pub const NO_FRAME: u32 = 36;
 pub const REGULAR_CONTENT: u32 = 37;
 pub const NO_ENCRYPTED_DATA_KEY: u32 = 38;
 pub const FORBIDDEN_BY_POLICY: u32 = 39;
+pub const NO_KEY_REMAINS: u32 = 40;
 
 /// The greatest message length and start any reader takes. Below it every
 /// position is far from overflow, and every place fits a table entry.

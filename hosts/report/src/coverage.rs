@@ -3,8 +3,8 @@
 use crate::{listed, say};
 use std::collections::{BTreeMap, BTreeSet};
 
-/// The refusals are 1 to 39.
-const NUMBERS: usize = 40;
+/// The refusals are 1 to 40.
+const NUMBERS: usize = 41;
 
 /// Answers counted by operation; column 0 is acceptance.
 #[derive(Default)]

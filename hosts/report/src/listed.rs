@@ -5,10 +5,12 @@ use std::collections::BTreeSet;
 /// The refusals that document 01, or the change request that adds it, lists
 /// for each operation, in its order of tests; each stands where it comes first,
 /// such as 2 and 32, which are tested of each part in turn, and 34 in reading,
-/// 19 and 30 in writing, which are tested of each frame.
+/// 19 and 30 in writing, which are tested of each frame. 16 alone is listed
+/// twice, of a key that is added: once of the draft's keys, and once of its own
+/// provider ID.
 ///
 /// Where version 2 alone is asked for, no policy forbids what is read.
-pub const LISTED: [(&str, &[u32]); 29] = [
+pub const LISTED: [(&str, &[u32]); 31] = [
     (
         "read section tolerant",
         &[1, 2, 32, 8, 9, 10, 11, 12, 14, 22],
@@ -106,6 +108,18 @@ pub const LISTED: [(&str, &[u32]); 29] = [
     ("write auth", &[6, 19, 30, 28]),
     ("write frames", WRITE_FRAMES),
     ("frames length", but_28(WRITE_FRAMES)),
+    (
+        "drop keys",
+        &[
+            1, 2, 3, 5, 6, 7, 32, 8, 9, 10, 11, 12, 14, 38, 16, 17, 18, 19, 20, 40,
+        ],
+    ),
+    (
+        "add key",
+        &[
+            1, 2, 3, 5, 6, 7, 32, 8, 9, 10, 11, 12, 14, 38, 16, 17, 18, 19, 20, 16, 27, 28,
+        ],
+    ),
     ("write listing", &[28]),
 ];
 
@@ -154,10 +168,10 @@ pub fn listed(operation: &str) -> &'static [u32] {
 }
 
 /// What is said of a function, which does what some operations do, is what
-/// these list: the same refusals, and those of each operation in its order.
+/// these list: the same refusals, and those of each operation in its order, none
+/// more often than it lists it.
 pub fn assert_said(function: &str, said: &[u32], lists: &[&[u32]]) {
     let set: BTreeSet<u32> = said.iter().copied().collect();
-    assert_eq!(set.len(), said.len(), "{function}: a number twice");
     let all: BTreeSet<u32> = lists.iter().copied().flatten().copied().collect();
     assert_eq!(set, all, "{function}");
     for list in lists {

@@ -3,9 +3,10 @@
 
 use report::{assert_said, listed, BODY_READERS, BODY_READERS_UNDER_POLICY};
 
-const HEADERS: [&str; 2] = [
+const HEADERS: [&str; 3] = [
     include_str!("../../../include/bafirolen.h"),
     include_str!("../../../include/bafirolen_policy.h"),
+    include_str!("../../../include/bafirolen_drafts.h"),
 ];
 const REFUSALS: &str = include_str!("../../../include/bafirolen_refusals.h");
 
@@ -21,11 +22,11 @@ fn the_numbers_of_refusals() {
                 .expect("a number")
         })
         .collect();
-    assert!(numbers.into_iter().eq(0..=39));
+    assert!(numbers.into_iter().eq(0..=40));
 }
 
 /// Each function that refuses, and the operations that its list is of.
-const FUNCTIONS: [(&str, &[&str]); 20] = [
+const FUNCTIONS: [(&str, &[&str]); 22] = [
     ("bafirolen_header_number", &["read body tolerant"]),
     ("bafirolen_read_header_body", &BODY_READERS),
     (
@@ -64,6 +65,8 @@ const FUNCTIONS: [(&str, &[&str]); 20] = [
         "bafirolen_header_body_len_under_policy",
         &["body length under policy"],
     ),
+    ("bafirolen_drop_encrypted_data_keys", &["drop keys"]),
+    ("bafirolen_add_encrypted_data_key", &["add key"]),
 ];
 
 /// What the function answers of an operation: a copy may find no room, and the

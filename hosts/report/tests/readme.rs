@@ -8,7 +8,7 @@ const README: &str = include_str!("../../../README.md");
 
 /// A column of the table, and the operations that it is of; those under a
 /// policy are in [`UNDER_POLICY`].
-const COLUMNS: [(&str, &[&str]); 15] = [
+const COLUMNS: [(&str, &[&str]); 17] = [
     ("context", &["read section tolerant", "read section strict"]),
     ("keys", &["read keys"]),
     ("body", &BODY_READERS),
@@ -23,6 +23,8 @@ const COLUMNS: [(&str, &[&str]); 15] = [
     ("write record", &["write auth"]),
     ("write frames", &["write frames"]),
     ("frames length", &["frames length"]),
+    ("drop keys", &["drop keys"]),
+    ("add key", &["add key"]),
     ("listing", &["write listing"]),
 ];
 
@@ -73,7 +75,7 @@ fn the_table_of_refusals() {
         .map(cells)
         .collect();
     let numbers: Vec<u32> = rows.iter().map(|row| row[0].parse().unwrap()).collect();
-    assert!(numbers.iter().copied().eq(1..=39));
+    assert!(numbers.iter().copied().eq(1..=40));
     let mut held = 0;
     for (at, (column, _)) in COLUMNS.iter().enumerate() {
         for operation in operations(column) {

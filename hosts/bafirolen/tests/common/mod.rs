@@ -4,6 +4,7 @@
 // Not every test uses all of it.
 #![allow(dead_code)]
 
+use bafirolen::Key;
 use std::convert::Infallible;
 
 /// Header H of document 01.
@@ -23,6 +24,18 @@ pub fn header_of(version: u8, context: &[u8], keys: &[u8]) -> Vec<u8> {
             [&front, context, keys, &back].concat()
         }
     }
+}
+
+/// A section of these encrypted data keys.
+pub fn key_section(keys: &[Key]) -> Vec<u8> {
+    let mut section = (keys.len() as u16).to_be_bytes().to_vec();
+    for key in keys {
+        for part in [key.provider_id, key.provider_info, key.ciphertext] {
+            section.extend((part.len() as u16).to_be_bytes());
+            section.extend(part);
+        }
+    }
+    section
 }
 
 /// Gives a message from a place on, in pieces of at most these lengths by turns.

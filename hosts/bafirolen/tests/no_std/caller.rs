@@ -4,9 +4,10 @@
 #![no_std]
 
 use bafirolen::{
-    fetch, frames_len, header_body_len, read_header_body, write_frames, write_header_body,
+    add_encrypted_data_key, drop_encrypted_data_keys, fetch, frames_len, header_body_len,
+    read_header_body, write_frames, write_header_body,
 };
-use bafirolen::{Draft, Refusal, Request};
+use bafirolen::{Draft, Key, Refusal, Request};
 use core::convert::Infallible;
 
 /// How many pairs the header at the message's front has.
@@ -51,6 +52,18 @@ pub fn write_frames_front<'r>(
     let out = room.get_mut(..length).ok_or(Refusal::OutputTooShort)?;
     write_frames(frame_length, text, frames, out)?;
     Ok(out)
+}
+
+/// Mends the draft at the front of a room, one key for all with a provider ID,
+/// and gives that front. The new key is added first, so that one remains.
+pub fn replace_keys<'r>(
+    room: &'r mut [u8],
+    gone: &[u8],
+    new: Key<'_>,
+) -> Result<&'r [u8], Refusal> {
+    add_encrypted_data_key(room, new)?;
+    let tail = drop_encrypted_data_keys(room, gone)?;
+    Ok(&room[..tail])
 }
 
 #[panic_handler]

@@ -2,6 +2,7 @@
 
 mod bodies;
 mod context;
+mod drafts;
 mod fetch;
 mod frames;
 mod frames_written;
@@ -62,5 +63,10 @@ pub const GROUPS: &[Group] = &[
         "frames_written",
         "frames written, and their length, by their number and length; takes up to 600 MB",
         frames_written::rows,
+    ),
+    (
+        "drafts",
+        "drafts from which keys are dropped, and to which one is added",
+        drafts::rows,
     ),
 ];

@@ -39,6 +39,7 @@ pub const NAMED: &[(&str, &str, &str)] = &[
         "36 no frame",
         "a place is one of a frame's",
     ),
+    ("27 added part", "27 draft's keys", "one test"),
 ];
 
 /// The same of faults that others stand between.
@@ -94,8 +95,9 @@ pub fn apart(first: &str, second: &str) -> Option<&'static str> {
         (2, 2) if first.strip_suffix(" length") == Some(second) => Some(LENGTH),
         (2, 2) if second == "2 whole section" => Some(LENGTH),
         (2, 2) => None,
-        // The required table is no part of the message.
+        // The required table is no part of the message, nor is an added key.
         (2, 31) => None,
+        (2, _) if second.contains(" added ") => None,
         (2, _) => Some(CUT),
         (8 | 21, 32) if in_a_pair(second) => Some(EMPTY),
         (32, 14) => Some(ENDS),

@@ -3,7 +3,7 @@
 use super::apart::apart;
 use compare_header::{compared, Coverage};
 use generator::faults::{Draft, FrameDraft, FrameWriteDraft};
-use generator::faults::{ReadDraft, RecordDraft, WriteDraft};
+use generator::faults::{MendDraft, ReadDraft, RecordDraft, WriteDraft};
 use std::collections::BTreeSet;
 
 /// A fault: its name, which begins with the refusal's number, and how it is
@@ -46,6 +46,17 @@ pub fn frame_write(
     plant: impl Fn(&mut FrameWriteDraft) + 'static,
 ) -> Fault<FrameWriteDraft> {
     fault(name, plant)
+}
+
+/// A fault of what is lent to mend a draft.
+pub fn mend(name: &str, plant: impl Fn(&mut MendDraft) + 'static) -> Fault<MendDraft> {
+    fault(name, plant)
+}
+
+/// A fault of a message, where the message is a draft.
+pub fn drafted(read: Fault<ReadDraft>) -> Fault<MendDraft> {
+    let plant = read.plant;
+    mend(&read.name, move |d| plant(&mut d.read))
 }
 
 /// The names of a list, in the order of tests.

@@ -14,6 +14,7 @@ mod bodies;
 mod every_pair;
 mod frame_writes;
 mod frames;
+mod mending;
 mod policies;
 mod reads;
 mod sections;
@@ -29,6 +30,7 @@ fn operations() -> Vec<Names> {
     all.push(frames::frames().names());
     all.extend(writes::lists());
     all.extend(frame_writes::lists());
+    all.extend(mending::lists());
     all
 }
 

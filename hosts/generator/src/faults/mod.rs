@@ -8,12 +8,14 @@
 
 mod frame_writes;
 mod frames;
+mod mending;
 mod reading;
 mod record;
 mod writing;
 
 pub use frame_writes::FrameWriteDraft;
 pub use frames::FrameDraft;
+pub use mending::MendDraft;
 pub use reading::{Area, ReadDraft, REQUIRED_TEXT};
 pub use record::RecordDraft;
 pub use writing::WriteDraft;

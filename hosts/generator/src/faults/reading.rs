@@ -2,7 +2,7 @@
 
 use super::Draft;
 use crate::fields::{back, front, Fields};
-use crate::image::{keys, pairs_length, section, section_with, Form, Image};
+use crate::image::{keys, keys_with, pairs_length, section, section_with, Form, Image};
 use crate::large::plain;
 use crate::Pair;
 
@@ -20,7 +20,7 @@ pub enum Area {
 
 /// Bytes in front of what is read, so that no position is right by being
 /// counted from the wrong place.
-const BEFORE: usize = 3;
+pub(super) const BEFORE: usize = 3;
 
 /// Two pairs and two keys, whole, with tables that just hold them.
 #[derive(Clone, Debug, PartialEq)]
@@ -32,6 +32,8 @@ pub struct ReadDraft {
     pub pair_count: Option<u16>,
     without_pairs: bool,
     without_keys: bool,
+    /// Keys whose parts are all empty, behind the others.
+    pub empty_keys: u16,
     pub reserved: [u8; 4],
     cut: Option<(Area, usize)>,
     pub start: u64,
@@ -76,6 +78,7 @@ impl ReadDraft {
             pair_count: None,
             without_pairs: false,
             without_keys: false,
+            empty_keys: 0,
             reserved: [0; 4],
             cut: None,
             start: BEFORE as u64,
@@ -123,7 +126,14 @@ impl ReadDraft {
                 section_with(pairs, length, count)
             }
             Area::Keys if self.without_keys => keys(&[]),
-            Area::Keys => keys(&fields.keys),
+            Area::Keys => {
+                let empty = self.empty_keys;
+                let mut image = keys_with(&fields.keys, fields.keys.len() as u16 + empty);
+                let end = image.bytes.len();
+                // All that such a key has is three lengths of 0.
+                image.bytes.resize(end + 6 * usize::from(empty), 0);
+                image
+            }
             Area::Back => back(fields, self.reserved),
         }
     }
@@ -131,6 +141,16 @@ impl ReadDraft {
     /// The message, cut a byte before the read that is cut, or whole with
     /// some bytes behind.
     pub fn message(&self) -> Vec<u8> {
+        self.followed_by(b"rest")
+    }
+
+    /// The same as a draft, at the front of a buffer, whole with so many bytes
+    /// behind.
+    pub(super) fn draft(&self, behind: usize) -> Vec<u8> {
+        self.followed_by(&vec![0xEE; behind]).split_off(BEFORE)
+    }
+
+    fn followed_by(&self, behind: &[u8]) -> Vec<u8> {
         let mut message = vec![0xEE; BEFORE];
         for &area in self.areas {
             message.extend(self.image(area).bytes);
@@ -140,7 +160,7 @@ impl ReadDraft {
         }
         match self.cut {
             Some(_) => message.truncate(self.wanted() - 1),
-            None => message.extend(b"rest"),
+            None => message.extend_from_slice(behind),
         }
         message
     }

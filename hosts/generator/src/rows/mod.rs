@@ -13,9 +13,15 @@ pub mod frame_writes;
 pub mod frames;
 pub mod header_writes;
 pub mod headers;
+pub mod key_adds;
+pub mod key_drops;
 pub mod leaves;
 pub mod listings;
 pub mod many_frames;
+pub mod mending;
+pub mod mending_long;
+pub mod mending_refusals;
+pub mod mending_sizes;
 pub mod no_key;
 pub mod only_authenticated;
 pub mod policies;
@@ -135,4 +141,12 @@ pub trait Codec {
         required: &[u32],
         out: &mut [u8],
     ) -> Written;
+}
+
+/// What rows of drafts are held against. The buffer is lent and changed; the
+/// answer is the new tail.
+pub trait Mend {
+    fn drop_keys(&self, draft: &mut [u8], provider_id: &[u8]) -> Written;
+    /// Provider ID, provider info and ciphertext.
+    fn add_key(&self, draft: &mut [u8], key: [&[u8]; 3]) -> Written;
 }

@@ -1,7 +1,7 @@
 //! The separate implementation, as the rows ask it.
 
 use super::{mode, refusal};
-use generator::rows::{Asked, Body, Codec, Lent, Place, Record, Refused, Section, Written};
+use generator::rows::{Asked, Body, Codec, Lent, Mend, Place, Record, Refused, Section, Written};
 use reference::*;
 
 pub struct Reference;
@@ -185,5 +185,15 @@ impl Codec for Reference {
         out: &mut [u8],
     ) -> Written {
         write_only_authenticated(message, start, text, required, out).map_err(refusal)
+    }
+}
+
+impl Mend for Reference {
+    fn drop_keys(&self, draft: &mut [u8], provider_id: &[u8]) -> Written {
+        drop_encrypted_data_keys(draft, provider_id).map_err(refusal)
+    }
+
+    fn add_key(&self, draft: &mut [u8], [id, info, ciphertext]: [&[u8]; 3]) -> Written {
+        add_encrypted_data_key(draft, id, info, ciphertext).map_err(refusal)
     }
 }

@@ -6,6 +6,7 @@ mod bodies;
 #[path = "../common/mod.rs"]
 mod common;
 mod frames;
+mod mending;
 mod reads;
 mod writes;
 
@@ -27,7 +28,10 @@ fn every_operation_on_generated_requests() {
         + writes::auth(&mut coverage)
         + writes::frames(&mut coverage)
         + writes::only_authenticated(&mut coverage)
-        + writes::listings(&mut coverage);
+        + writes::listings(&mut coverage)
+        + mending::drops(&mut coverage)
+        + mending::adds(&mut coverage)
+        + mending::too_long(&mut coverage);
     coverage.print();
     coverage.assert_complete(LISTED.map(|(operation, _)| operation));
     common::report("generated requests", compared);
