@@ -31,7 +31,7 @@ use Rattle.checks.specs.declared.Checked.{Checked}
 use Rattle.checks.specs.declared.Checked.the-variants.{Passes, Fails}
 use Rattle.checks.specs.declared.WriteAnswer.{WriteAnswer}
 use Rattle.checks.specs.declared.WriteAnswer.the-variants.{Written, Refused}
-use Rattle.drafts.specs.Codes.{Mends, Stands, HasRoom, adding-checks}
+use Rattle.drafts.specs.Codes.{Mends, Stands, Short, HasRoom, adding-checks}
 use Rattle.drafts.specs.declared.Draft.{Draft}
 use Rattle.drafts.proofs.Answers.{here, mends-not, mends-so}
 use Rattle.drafts.proofs.TakenOut.{stored-own, stored-filled}
@@ -56,6 +56,9 @@ module _ (id info cipher m : List ℕ) (d : Draft) (size : ℕ) (room : HasRoom 
 
   moved-long : length m₁ ≡ length m
   moved-long = let e = ended in let f = fits in let n = length-part m (d .keysEnd) (d .tail - d .keysEnd) (omega arith) in ap length e₁ ∙ length-stored m (d .keysEnd + size) rest (omega arith)
+
+  pub key-short : Short id info cipher
+  key-short = room .short
 
   pub key-room : d .keysEnd + (6 + length id + length info + length cipher) ≤ length m₁
   key-room = let l = moved-long in let e = ended in let f = fits in let s = sized in omega arith
@@ -198,11 +201,8 @@ module _ (m : List ℕ) (d : Draft) (st : Stands m d) (id info cipher : List ℕ
 
         pub has-room : HasRoom m d size id info cipher
         has-room =
-            let short = are-short id info cipher (d .keyCount) c c-is passes in
             record {
-              of-id = short .of-id;
-              of-info = short .of-info;
-              of-cipher = short .of-cipher;
+              short = are-short id info cipher (d .keyCount) c c-is passes;
               sized = sized;
               starts = keys-start;
               ended = keys-ended;

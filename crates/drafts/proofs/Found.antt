@@ -86,7 +86,7 @@ module _ (m : List ℕ) (a : MeasureAnswer) where
           long = keyed policy.None Either Tolerant max.None m 0 o first np second nk third c tail stages .long;
           inside = all-inside nk refl;
           bytes = hb;
-          some = rw (← keyed policy.None Either Tolerant max.None m 0 o first np second nk third c tail stages .long) (few-keys m hb b tail (here read-draft m few ∙ read-whole policy.None Either Tolerant max.None m 0 o first np second nk third c tail stages no-max no-max refl refl));
+          counted = rw (← keyed policy.None Either Tolerant max.None m 0 o first np second nk third c tail stages .long) (few-keys m hb b tail (here read-draft m few ∙ read-whole policy.None Either Tolerant max.None m 0 o first np second nk third c tail stages no-max no-max refl refl));
           few = few;
         }
 

@@ -108,7 +108,7 @@ module _ (m : List ℕ) (d : Draft) (st : Stands m d) (id m₁ : List ℕ) (kept
   count-fits =
       let a = counted in
       let b = fewer id (taken-out id (fields-of (st .body) .keys)) in
-      let c = st .some in
+      let c = st .counted in
       let e = length-keys (st .body) in
       let f = st .long in
       omega arith

@@ -38,7 +38,7 @@ pub record Stands (m : List ℕ) (d : Draft) : Type 0 where
   pub long : length (body .keys) ≡ d .keyCount
   pub inside : keys-end m (d .keyCount) (d .keysStart + 2) ≤ length m
   pub bytes : Bytes m
-  pub some : d .keyCount < 65536
+  pub counted : d .keyCount < 65536
   pub few : length m < 4294967296
 
 abbrev pub why-draft : DraftAnswer → Refusal
@@ -78,9 +78,7 @@ pub record Short (id info cipher : List ℕ) : Type 0 where
 
 -- one of that size has room behind a draft's keys, and is one of 65,535 at most
 pub record HasRoom (m : List ℕ) (d : Draft) (size : ℕ) (id info cipher : List ℕ) : Type 0 where
-  pub of-id : length id < 65536
-  pub of-info : length info < 65536
-  pub of-cipher : length cipher < 65536
+  pub short : Short id info cipher
   pub sized : size ≡ 6 + length id + length info + length cipher
   pub starts : d .keysStart + 2 ≤ d .keysEnd
   pub ended : d .keysEnd ≤ d .tail

@@ -70,7 +70,7 @@ fn put_part(m: &mut [u8], at: usize, part: &[u8]) -> usize
 
 // WriteEncryptedDataKey: the three entries from `at` on.
 fn put_key(m: &mut [u8], at: usize, id: &[u8], info: &[u8], cipher: &[u8])
-    requires { ⌜ (length (now id) < 65536) × (length (now info) < 65536) × (length (now cipher) < 65536) × (at + (6 + length (now id) + length (now info) + length (now cipher)) ≤ length (now m)) ⌝ }
+    requires { ⌜ Short (now id) (now info) (now cipher) × (at + (6 + length (now id) + length (now info) + length (now cipher)) ≤ length (now m)) ⌝ }
     ensures { λ _. ⌜ now (m .exit) ≡ stored (now (m .entry)) at (write-encrypted-data-key (record { keyProviderId = now (id .entry); keyProviderInfo = now (info .entry); ciphertext = now (cipher .entry) })) ⌝ }
 {
     let second = put_part(m, at, id);

@@ -1,5 +1,5 @@
 // A draft, mended in the buffer in which it stands: keys taken out of it, or one added. It is read in either version, tolerantly, without
-// tables or maximum; its keys are walked, and nothing is copied.
+// tables or maximum; its keys are walked, and no copy of it is made.
 mod adding;
 mod dropping;
 
