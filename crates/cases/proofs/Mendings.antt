@@ -7,7 +7,7 @@ use mathlib.Core.List.{List, [], _∷_, _++_, map, List·Memᴰ}
 use Prim.Native.Nat.{ℕ, _<_}
 use native.Mathlib.Omega.{arith}
 use borrow.Author.Tests.{lt-leb}
-use lib.ListN.{replicate, length-replicate}
+use lib.ListN.{length, replicate, length-replicate}
 use Rattle.format.specs.Read.{accepted, operation}
 use Rattle.format.specs.Serialize.{every}
 use Rattle.format.specs.Fields.{EncryptedDataKey, HeaderBody}
@@ -54,7 +54,7 @@ add-answers = refl
 abbrev long : ℕ → EncryptedDataKey
 long n = record { keyProviderId = []; keyProviderInfo = []; ciphertext = replicate n 0 }
 
-too-large : (n : ℕ) → 65535 < n → (b : HeaderBody) → addable (long n) b ≡ false
+too-large : (n : ℕ) → 65535 < n → (b : HeaderBody) → addable (long n) (length (b .keys)) ≡ false
 unfolding every
 too-large n h b = rw (length-replicate {A = ℕ} n 0, lt-leb n 65535 h) refl
 

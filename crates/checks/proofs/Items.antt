@@ -2,10 +2,10 @@
 use Prim.Native.Nat.{ℕ, zero, suc, _+_, _*_, _-_, _≤_, _<_}
 use native.Mathlib.Nat.{add-zero, mul-zero, mul-suc, add-assoc, add-comm, not-suc-le-zero}
 use native.Mathlib.Omega.{arith}
-use mathlib.Core.Path.{_≡_, refl, sym, ap, ap₂, _∙_}
+use mathlib.Core.Path.{_≡_, refl, ap, ap₂, _∙_}
 use mathlib.Core.Bool.{Bool, true}
-use mathlib.Core.List.{List, [], _∷_, _++_, append-assoc}
-use Rattle.format.proofs.Serialize.{images-append}
+use mathlib.Core.List.{List, [], _∷_, _++_}
+use Rattle.format.proofs.Serialize.{images-append, sum-append}
 use Rattle.format.specs.Serialize.{images, sum, every}
 use Rattle.format.specs.Lent.{items, here}
 use Rattle.format.proofs.Firsts.{both}
@@ -41,11 +41,6 @@ module _ {A B C : Type 0} where
   unfolding images
   images-of-images f g h e [] = refl
   images-of-images f g h e (x ∷ xs) = images-append f (g x) (images g xs) ∙ ap₂ (λ a b. a ++ b) (e x) (images-of-images f g h e xs)
-
-pub sum-append : {B : Type 0} (f : B → ℕ) (xs ys : List B) → sum f (xs ++ ys) ≡ sum f xs + sum f ys
-unfolding sum
-sum-append f [] ys = omega arith
-sum-append f (x ∷ xs) ys = ap (λ (n : ℕ). f x + n) (sum-append f xs ys) ∙ sym (add-assoc (f x) (sum f xs) (sum f ys))
 
 module _ {A B : Type 0} where
   pub sum-of-images : (f : B → ℕ) (g : A → List B) (h : A → ℕ) → ((x : A) → sum f (g x) ≡ h x) → (xs : List A) → sum f (images g xs) ≡ sum h xs

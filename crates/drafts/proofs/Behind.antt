@@ -89,8 +89,8 @@ module _ (m : List ℕ) (d : Draft) (st : Stands m d) (id info cipher : List ℕ
   reads : operation read-draft m 0 ≡ accepted (st .body) (d .tail)
   reads = here read-draft m (st .few) ∙ st .reads
 
-  addable-is : addable k (st .body) ≡ parts && ltb (d .keyCount) 65535
-  addable-is = ap (λ (n : ℕ). parts && ltb n 65535) (st .long)
+  addable-is : addable k (length (st .body .keys)) ≡ addable k (d .keyCount)
+  addable-is = ap (addable k) (st .long)
 
   -- 16 or 27
   pub add-refused : (r : Refusal) → c ≡ Fails r → Mends written-as (at (add-encrypted-data-key k (length m)) m 0) m m (Refused r)

@@ -13,7 +13,8 @@ use Rattle.format.specs.Lent.{bytes-at}
 use Rattle.format.specs.Places.{items-here, items-end, key-here, key-end, keys-here, keys-end}
 use Rattle.format.specs.Mending.{without-provider}
 use Rattle.format.proofs.Serialize.{images-append}
-use Rattle.format.proofs.TakenOut.{without-append}
+use Rattle.format.proofs.LeftOut.{of-joined}
+use Rattle.format.proofs.TakenOut.{leaves-out}
 use Rattle.steps.proofs.Numbers.{length-part}
 use Rattle.wire.specs.Stored.{stored}
 use Rattle.wire.proofs.StoreLaws.{length-stored, drop-stored, stored-none, stored-more}
@@ -91,7 +92,7 @@ module _ (id m₀ : List ℕ) (first n : ℕ) (hb : Bytes m₀) (inside : keys-e
       ap (λ (k : ℕ). left id m₀ first k) j
       ∙ ap (λ (l : List _). without-provider id (map key-of l)) (here-snoc key-here key-end m₀ i first ∙ ap (λ (t : ℕ). keys-here m₀ i first ++ (key-here m₀ t ∷ [])) (sym (c .place)))
       ∙ ap (without-provider id) (map-append key-of (keys-here m₀ i first) (key-here m₀ s ∷ []))
-      ∙ without-append id (map key-of (keys-here m₀ i first)) (next ∷ [])
+      ∙ of-joined (leaves-out id) (map key-of (keys-here m₀ i first)) (next ∷ [])
       ∙ rw e refl
 
   module _ (k : KeyAt) (k-is : KeyIs m id s k) where

@@ -1,18 +1,17 @@
 -- The contract of mending a draft, and what its steps say to each other. Assumes nothing.
 use mathlib.Core.Path.{_≡_}
-use mathlib.Core.Bool.{true, false, _&&_}
+use mathlib.Core.Bool.{true, false}
 use mathlib.Core.List.{List, [], _∷_, map}
 use Prim.Native.Nat.{ℕ, _+_, _-_, _≤_, _<_}
-use lib.Dec.{ltb}
 use lib.ListN.{length}
 use Rattle.format.specs.Read.{Answer, accepted, refused, at}
-use Rattle.format.specs.Serialize.{Bytes, every, same-bytes}
+use Rattle.format.specs.Serialize.{Bytes, same-bytes}
 use Rattle.format.specs.Utf8.{valid-utf8-seq}
-use Rattle.format.specs.Fields.{EncryptedDataKey, HeaderBody, fields-of, key-of, key-parts}
+use Rattle.format.specs.Fields.{EncryptedDataKey, HeaderBody, fields-of, key-of}
 use Rattle.format.specs.Keys.{write-encrypted-data-keys}
-use Rattle.format.specs.Checks.{Check, check, has-uint16-len}
+use Rattle.format.specs.Checks.{Check, check}
 use Rattle.format.specs.Lent.{bytes-at}
-use Rattle.format.specs.Mending.{read-draft, without-provider, buffer-after}
+use Rattle.format.specs.Mending.{read-draft, without-provider, addable, buffer-after}
 use Rattle.format.specs.Mended.{Apart}
 use Rattle.format.specs.Places.{key-here, key-end, keys-here, keys-end}
 use Rattle.wire.specs.Codes.{because}
@@ -87,4 +86,4 @@ pub record HasRoom (m : List ℕ) (d : Draft) (size : ℕ) (id info cipher : Lis
 
 -- the tests of a key that is to be added to n of them, without 28
 abbrev pub adding-checks : EncryptedDataKey → ℕ → List Check
-adding-checks k n = check 16 (valid-utf8-seq (k .keyProviderId)) ∷ check 27 (every has-uint16-len (key-parts k) && ltb n 65535) ∷ []
+adding-checks k n = check 16 (valid-utf8-seq (k .keyProviderId)) ∷ check 27 (addable k n) ∷ []

@@ -1,19 +1,18 @@
 -- Equality of keys is equality of their bytes, and find answers the value of the one pair with that key. Assumes nothing.
 use mathlib.Core.Path.{_≡_, refl, sym, ap, _∙_}
-use mathlib.Core.Bool.{Bool, true, false, not, _&&_, _||_}
+use mathlib.Core.Bool.{Bool, true, false, not, _||_}
 use mathlib.Core.List.{List, [], _∷_, _++_, append-assoc, map, List·Memᴰ, List·Memᴰ·head, List·Memᴰ·tail, Memᴰ·append-right}
 use Prim.Native.Nat.{ℕ}
 use native.Mathlib.Omega.{arith}
 use lib.Dec.{eqb}
-use lib.ListN.{drop}
-use Rattle.format.specs.Read.{ReadResult, success, more-needed, error, Reader, go-on, _>>=_, Answer, accepted, refused, answer, operation}
+use Rattle.format.specs.Read.{ReadResult, success, error, accepted, answer, operation}
 use Rattle.format.specs.Serialize.{Bytes, Part, images, same-bytes}
 use Rattle.format.specs.Fields.{Pair, PairAt, pair-of, pair-places}
 use Rattle.format.specs.Context.{seen, write-aad-pair, tolerant, read-aad-section, look-up, find-value}
 use Rattle.format.specs.Demand3.{Held, Each, Has, here, there, Differ, Finds}
 use Rattle.format.proofs.Tests.{is-eqb, eqb-is}
 use Rattle.format.proofs.Firsts.{both, or-right}
-use Rattle.format.proofs.Exact.{Oks, puts, map-puts}
+use Rattle.format.proofs.Exact.{Oks, map-puts}
 use Rattle.format.proofs.Context.{NextOk, pair-at}
 use Rattle.format.proofs.Section.{section-exact}
 use Rattle.format.proofs.Held.{context-held}
@@ -57,8 +56,17 @@ unfolding seen
 member-seen k p (q ∷ ps) (List·Memᴰ·head e) h = rw (← ap (λ x. x .key) e, ← h, equal-same k) refl
 member-seen k p (q ∷ ps) (List·Memᴰ·tail m) h = or-right (same-bytes k (q .key)) (member-seen k p ps m h)
 
+pub seen-member : (k : List ℕ) (ps : List Pair) → seen k ps ≡ true → (p : Pair) × List·Memᴰ p ps × (k ≡ p .key)
+unfolding seen
+seen-member k [] e = let z : _≡_ {A = ℕ} 0 1 = cc in absurd (omega arith)
+seen-member k (p ∷ ps) e = go (same-bytes k (p .key)) refl e (seen-member k ps)
+  where
+    go : (b : Bool) → same-bytes k (p .key) ≡ b → (b || seen k ps) ≡ true → (seen k ps ≡ true → (q : Pair) × List·Memᴰ q ps × (k ≡ q .key)) → (q : Pair) × List·Memᴰ q (p ∷ ps) × (k ≡ q .key)
+    go true q e f = (p, List·Memᴰ·head refl, same-equal k (p .key) q)
+    go false q e f = let (r, m, is) = f e in (r, List·Memᴰ·tail m, is)
+
 -- refusal 12 at each pair leaves keys that differ
-contrary : {b : Bool} → b ≡ true → not b ≡ true → ⊥
+pub contrary : {b : Bool} → b ≡ true → not b ≡ true → ⊥
 contrary e f = let z : _≡_ {A = ℕ} 0 1 = cc in omega arith
 
 -- the key of p, which stands among the pairs before, is in none of the pairs behind

@@ -25,7 +25,8 @@ use Rattle.format.proofs.Accepts.{keys-good}
 use Rattle.format.proofs.Keys.{KeyListOk}
 use Rattle.format.proofs.Body.{Sent, sent-bytes}
 use Rattle.format.proofs.Messages.{refused-stays}
-use Rattle.format.proofs.TakenOut.{all-stay, without-append, good-behind}
+use Rattle.format.proofs.LeftOut.{of-joined}
+use Rattle.format.proofs.TakenOut.{leaves-out, all-stay, good-behind}
 use Rattle.format.proofs.Drafts.{sent-with, around-length, WasRead, was-read, length-keys}
 use Rattle.format.proofs.Mending.{add-said, as-long-as, drafted, drop-said, in-parts, long, nonempty, own-image, own-keys, own-length, own-tail, past, refused-keeps, says-16, says-27, says-28, with-image}
 
@@ -58,7 +59,7 @@ module _ (k : EncryptedDataKey) (m : List ℕ) (b : HeaderBody) (t : ℕ) (w : W
       ∙ rw (append-nil (write-encrypted-data-key k), own) refl in
       omega arith
 
-  module _ (valid : valid-utf8-seq (k .keyProviderId) ≡ true) (fit : addable k b ≡ true) where
+  module _ (valid : valid-utf8-seq (k .keyProviderId) ≡ true) (fit : addable k (length (b .keys)) ≡ true) where
     more-ok : KeyListOk more
     unfolding images every each
     more-ok =
@@ -103,7 +104,7 @@ module _ (k : EncryptedDataKey) (m : List ℕ) (b : HeaderBody) (t : ℕ) (w : W
         unfolding without-provider
         left-again =
             ap (λ (f : Fields). without-provider id (f .keys)) (longer-draft .gives .fields)
-            ∙ without-append id (fields-of b .keys) (k ∷ [])
+            ∙ of-joined (leaves-out id) (fields-of b .keys) (k ∷ [])
             ∙ rw (all-stay id (fields-of b .keys) absent, equal-same id) (append-nil (fields-of b .keys))
 
         first-again : dropped-image id read-again ≡ take t m

@@ -52,8 +52,10 @@ pub mod Grammar
 pub mod Characters
 pub mod Lengths
 pub mod Tables
+pub mod TablesJoined
 pub mod Filled
 pub mod WrittenBack
+pub mod LeftOut
 pub mod TakenOut
 pub mod Drafts
 pub mod Apart
@@ -67,6 +69,12 @@ pub mod Pinned
 pub mod KeyOrder
 pub mod SelectionLaws
 pub mod Selection
+pub mod EitherOrder
+pub mod Rearranged
+pub mod Beside
+pub mod AcceptedPairs
+pub mod PairsArranged
+pub mod Arrangement
 pub mod PolicyRead
 pub mod PolicyWritten
 pub mod UnderPolicy

@@ -49,15 +49,15 @@ module _ (m : List ℕ) (b : HeaderBody) (t : ℕ) (e : operation read-draft m 0
     unfolding add-encrypted-data-key test _>>_
     says-16 h = accepted-goes-on read-draft _ m 0 b t e .1 ∙ rw h refl
 
-    pub says-27 : valid-utf8-seq (k .keyProviderId) ≡ true → addable k b ≡ false → operation (add-encrypted-data-key k room) m 0 ≡ refused 27 0
+    pub says-27 : valid-utf8-seq (k .keyProviderId) ≡ true → addable k (length (b .keys)) ≡ false → operation (add-encrypted-data-key k room) m 0 ≡ refused 27 0
     unfolding add-encrypted-data-key test _>>_
     says-27 h j = accepted-goes-on read-draft _ m 0 b t e .1 ∙ rw (h, j) refl
 
-    pub says-28 : valid-utf8-seq (k .keyProviderId) ≡ true → addable k b ≡ true → leb (length (added-image k b)) room ≡ false → operation (add-encrypted-data-key k room) m 0 ≡ refused 28 0
+    pub says-28 : valid-utf8-seq (k .keyProviderId) ≡ true → addable k (length (b .keys)) ≡ true → leb (length (added-image k b)) room ≡ false → operation (add-encrypted-data-key k room) m 0 ≡ refused 28 0
     unfolding add-encrypted-data-key fitting test _>>_
     says-28 h j i = accepted-goes-on read-draft _ m 0 b t e .1 ∙ rw (h, j, i) refl
 
-    pub add-said : valid-utf8-seq (k .keyProviderId) ≡ true → addable k b ≡ true → leb (length (added-image k b)) room ≡ true → operation (add-encrypted-data-key k room) m 0 ≡ accepted (added-image k b) t
+    pub add-said : valid-utf8-seq (k .keyProviderId) ≡ true → addable k (length (b .keys)) ≡ true → leb (length (added-image k b)) room ≡ true → operation (add-encrypted-data-key k room) m 0 ≡ accepted (added-image k b) t
     unfolding add-encrypted-data-key fitting test _>>_ return
     add-said h j i = accepted-goes-on read-draft _ m 0 b t e .1 ∙ rw (h, j, i) refl
 

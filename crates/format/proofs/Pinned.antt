@@ -3,14 +3,14 @@ use mathlib.Core.Path.{_≡_, refl, ap}
 use mathlib.Core.Bool.{Bool, true, false, not, _&&_}
 use mathlib.Core.Logic.{_⊎_, inl, inr, ⊎-elim}
 use mathlib.Core.Option.{none}
-use mathlib.Core.List.{List, [], _∷_, _++_, append-assoc}
-use Prim.Native.Nat.{ℕ, zero, suc, _+_, _*_, _/_, _%_, _≤_, _<_}
+use mathlib.Core.List.{List, [], _∷_, _++_}
+use Prim.Native.Nat.{ℕ, zero, suc, _+_, _/_, _%_, _≤_, _<_}
 use native.Mathlib.Omega.{arith}
 use lib.Dec.{leb, eqb}
 use lib.ListN.{length, drop, length-drop}
 use lib.Seq.{take-append-seam, drop-append-seam}
 use Rattle.format.specs.Shared.{by, one-or-two, frame-fits}
-use Rattle.format.specs.Read.{Answer, accepted, refused, at, addressable, operation}
+use Rattle.format.specs.Read.{Answer, accepted, refused, at, operation}
 use Rattle.format.specs.Serialize.{read, read-at, write-uint16, write-uint32, images, every}
 use Rattle.format.specs.Fields.{Form, today, old, Pair, EncryptedDataKey, key-parts}
 use Rattle.format.specs.Checks.{first, count-checks, fits-form}
@@ -21,10 +21,10 @@ use Rattle.format.specs.Body.{Which, either, v1-only, v2-only, Opening, 
 use Rattle.format.specs.Lent.{bytes-at}
 use Rattle.format.specs.Places.{number8}
 use Rattle.format.specs.First.{NoneApplies, operation-list, opening-list}
-use Rattle.format.specs.Demand3.{old-empty, reached-old, reaches-old}
+use Rattle.format.specs.Demand3.{reached-old, reaches-old}
 use Rattle.format.specs.Pinned.{Decides, Pinned}
 use Rattle.format.proofs.Tests.{leb-is, is-leb, nleb-is, is-nleb, eqb-is, is-eqb, neqb-is}
-use Rattle.format.proofs.Serialize.{read-fits, read-short}
+use Rattle.format.proofs.Serialize.{read-fits, read-short, images-append}
 use Rattle.format.proofs.Firsts.{both, and, or-cases, or-right, first-fails, fails-first}
 use Rattle.format.proofs.Grammar.{valid-octets, octets-valid}
 use Rattle.format.proofs.Characters.{to-characters, to-octets}
@@ -68,18 +68,13 @@ frames c f =
           h;
     }
 
-images-join : {A : Type 0} (f : A → List ℕ) (xs ys : List A) → images f (xs ++ ys) ≡ images f xs ++ images f ys
-unfolding images
-images-join f [] ys = refl
-images-join f (x ∷ xs) ys = rw (images-join f xs ys, append-assoc (f x) (images f xs) (images f ys)) refl
-
-pairs-join : (ps qs : List Pair) → write-aad-pairs (ps ++ qs) ≡ write-aad-pairs ps ++ write-aad-pairs qs
+pub pairs-join : (ps qs : List Pair) → write-aad-pairs (ps ++ qs) ≡ write-aad-pairs ps ++ write-aad-pairs qs
 unfolding write-aad-pairs
-pairs-join = images-join write-aad-pair
+pairs-join = images-append write-aad-pair
 
 keys-join : (ks js : List EncryptedDataKey) → write-encrypted-data-keys (ks ++ js) ≡ write-encrypted-data-keys ks ++ write-encrypted-data-keys js
 unfolding write-encrypted-data-keys
-keys-join = images-join write-encrypted-data-key
+keys-join = images-append write-encrypted-data-key
 
 frames-tested : (which : Which) → Decides (tests-frames which) (which ≡ either)
 frames-tested either = record { then-holds = λ e. refl; holds-then = λ h. refl }

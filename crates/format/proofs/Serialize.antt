@@ -1,15 +1,15 @@
 -- Bytes, numbers and entries are read exactly as they are written. Assumes nothing.
-use mathlib.Core.Path.{_≡_, refl, sym, ap, subst, _∙_}
-use mathlib.Core.Bool.{Bool, true, false}
+use mathlib.Core.Path.{_≡_, refl, sym, ap, _∙_}
+use mathlib.Core.Bool.{Bool, true, false, _&&_}
 use mathlib.Core.List.{List, [], _∷_, _++_, append-assoc, append-nil}
 use Prim.Native.Nat.{ℕ, zero, suc, _+_, _*_, _/_, _%_, _≤_, _<_}
 use native.Mathlib.Omega.{arith}
-use native.Mathlib.Nat.{add-assoc, add-zero}
+use native.Mathlib.Nat.{add-assoc}
 use lib.Dec.{leb}
 use lib.ListN.{length, take, drop, length-append, take-append-drop}
 use lib.Seq.{take-at, drop-at, length-take-le}
-use Rattle.format.specs.Read.{ReadResult, success, more-needed, error, Reader, _>>=_, _>>_, return, no-end, held}
-use Rattle.format.specs.Serialize.{Bytes, Part, read, number-from, number, read-uint, write-uint, read-uint8, read-uint16, write-uint16, read-uint32, write-uint32, read-short-length-seq, write-short-length-seq, entry-length, images, sum, same-bytes}
+use Rattle.format.specs.Read.{success, more-needed, _>>=_, _>>_, return, no-end, held}
+use Rattle.format.specs.Serialize.{Bytes, Part, read, number-from, number, read-uint, write-uint, read-uint8, read-uint16, write-uint16, read-uint32, write-uint32, read-short-length-seq, write-short-length-seq, entry-length, images, sum, every}
 use Rattle.format.proofs.Tests.{leb-is, nleb-is, is-leb, is-nleb}
 use Rattle.format.proofs.Exact.{Took, Exact, seq-exact, free-exact, give-exact, revalue, revalue-bytes, more-is-no-success}
 
@@ -139,3 +139,23 @@ pub images-append : {B C : Type 0} (f : B → List C) (xs ys : List B) → image
 unfolding images
 images-append f [] ys = refl
 images-append f (x ∷ xs) ys = ap (λ l. f x ++ l) (images-append f xs ys) ∙ sym (append-assoc (f x) (images f xs) (images f ys))
+
+pub sum-append : {B : Type 0} (f : B → ℕ) (xs ys : List B) → sum f (xs ++ ys) ≡ sum f xs + sum f ys
+unfolding sum
+sum-append f [] ys = omega arith
+sum-append f (x ∷ xs) ys = ap (λ (n : ℕ). f x + n) (sum-append f xs ys) ∙ sym (add-assoc (f x) (sum f xs) (sum f ys))
+
+pub every-append : {B : Type 0} (f : B → Bool) (xs ys : List B) → every f (xs ++ ys) ≡ (every f xs && every f ys)
+unfolding every
+every-append f [] ys = refl
+every-append f (x ∷ xs) ys = ap (λ b. f x && b) (every-append f xs ys) ∙ and-assoc (f x)
+  where
+    and-assoc : (a : Bool) → (a && (every f xs && every f ys)) ≡ ((a && every f xs) && every f ys)
+    and-assoc true = refl
+    and-assoc false = refl
+
+-- a test of all that items give is one of each item
+pub every-images : {B C : Type 0} (f : C → Bool) (g : B → List C) (xs : List B) → every f (images g xs) ≡ every (λ x. every f (g x)) xs
+unfolding every images
+every-images f g [] = refl
+every-images f g (x ∷ xs) = every-append f (g x) (images g xs) ∙ ap (λ b. every f (g x) && b) (every-images f g xs)

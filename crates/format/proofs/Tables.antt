@@ -1,11 +1,11 @@
 -- Refusal 26 speaks of each place of a table, and a table has its parts by their places. Assumes nothing.
-use mathlib.Core.Path.{_≡_, refl, sym, ap, _∙_}
+use mathlib.Core.Path.{_≡_, refl, ap, ap₂, _∙_}
 use mathlib.Core.Bool.{Bool, true}
 use mathlib.Core.Option.{none}
-use mathlib.Core.List.{List, []}
-use Prim.Native.Nat.{ℕ, zero, suc, _+_, _*_, _/_, _%_, _≤_, _<_}
+use mathlib.Core.List.{List, [], _∷_, _++_}
+use Prim.Native.Nat.{ℕ, zero, suc, _+_, _*_, _/_, _<_}
+use native.Mathlib.Nat.{add-zero, mul-zero, mul-suc}
 use native.Mathlib.Omega.{arith}
-use lib.Dec.{eqb}
 use lib.ListN.{length, getD}
 use Rattle.format.specs.Serialize.{every}
 use Rattle.format.specs.Checks.{first}
@@ -20,6 +20,30 @@ pub items-length : {A : Type 0} (f : ℕ → A) (k n at : ℕ) → length (items
 unfolding items
 items-length f k zero at = refl
 items-length f k (suc n) at = ap suc (items-length f k n (at + k))
+
+-- one row of them behind another, and of another function that gives the same
+pub items-append : {A : Type 0} (f : ℕ → A) (k a b at : ℕ) → items f k (a + b) at ≡ items f k a at ++ items f k b (at + k * a)
+unfolding items
+items-append f k zero b at =
+    let e : 0 + b ≡ b = omega arith in
+    let z : at + k * 0 ≡ at = ap (λ n. at + n) (mul-zero k) ∙ add-zero at in
+    rw (e, z) refl
+items-append f k (suc a) b at =
+    let e : suc a + b ≡ suc (a + b) = omega arith in
+    let z : at + k * suc a ≡ at + k + k * a = (let m = mul-suc k a in omega arith) in
+    rw (e, z) (ap (λ l. f at ∷ l) (items-append f k a b (at + k)))
+
+pub items-same : {A : Type 0} (f g : ℕ → A) (k n i j : ℕ) → ((x : ℕ) → x < n → f (i + k * x) ≡ g (j + k * x)) → items f k n i ≡ items g k n j
+unfolding items
+items-same f g k zero i j h = refl
+items-same f g k (suc n) i j h =
+    let m = mul-zero k in
+    let first : f i ≡ g j = ap f (let e : i ≡ i + k * 0 = omega arith in e) ∙ h 0 (omega arith) ∙ ap g (let e : j + k * 0 ≡ j = omega arith in e) in
+    let rest : (x : ℕ) → x < n → f (i + k + k * x) ≡ g (j + k + k * x) =
+    λ x less.
+    (let m = mul-suc k x in
+    ap f (let e : i + k + k * x ≡ i + k * suc x = omega arith in e) ∙ h (suc x) (omega arith) ∙ ap g (let e : j + k * suc x ≡ j + k + k * x = omega arith in e)) in
+    ap₂ (λ x l. x ∷ l) first (items-same f g k n (i + k) (j + k) rest)
 
 items-at : {A : Type 0} (f : ℕ → A) (d : A) (n at i j : ℕ) → i < n → j ≡ at + 2 * i → getD (items f 2 n at) i d ≡ f j
 unfolding items

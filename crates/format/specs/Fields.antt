@@ -79,21 +79,27 @@ fields-of b =
       suiteData = b .suiteData .bytes;
     }
 
--- the same fields with other keys
-abbrev pub with-keys : List EncryptedDataKey → Fields → Fields
-with-keys ks f =
+-- the same fields with other pairs and other keys
+abbrev pub with-lists : List Pair → List EncryptedDataKey → Fields → Fields
+with-lists ps ks f =
     record {
       version = f .version;
       messageType = f .messageType;
       suite = f .suite;
       messageId = f .messageId;
-      pairs = f .pairs;
+      pairs = ps;
       keys = ks;
       contentType = f .contentType;
       headerIvLength = f .headerIvLength;
       frameLength = f .frameLength;
       suiteData = f .suiteData;
     }
+
+abbrev pub with-pairs : List Pair → Fields → Fields
+with-pairs ps f = with-lists ps (f .keys) f
+
+abbrev pub with-keys : List EncryptedDataKey → Fields → Fields
+with-keys ks f = with-lists (f .pairs) ks f
 
 -- an item's parts, in order: the two of a pair, the three of a key
 abbrev pub pair-parts : Pair → List (List ℕ)

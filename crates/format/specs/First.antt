@@ -221,7 +221,7 @@ unfoldable pub add-list : EncryptedDataKey → ℕ → List ℕ → ℕ → List
 add-list k room m s =
     body-list (without-tables either) m s
     ++ (unless 16 (valid-utf8-seq (k .keyProviderId))
-    ∷ unless 27 (addable k (body-here m s))
+    ∷ unless 27 (addable k (length (body-here m s .keys)))
     ∷ unless 28 (leb (length (added-image k (body-here m s))) room)
     ∷ [])
 

@@ -30,6 +30,7 @@ pub mod Size
 pub mod Pinned
 pub mod SourceEquality
 pub mod Selection
+pub mod Arrangement
 pub mod UnderPolicy
 pub mod Trusted
 pub mod Fetched

@@ -97,11 +97,11 @@ pub record Adds (k : EncryptedDataKey) (buffer : List ℕ) : Type 0 where
   -- 16, 27 and 28 in this sequence
   pub not-utf8 : (b : HeaderBody) (t : ℕ) → operation read-draft buffer 0 ≡ accepted b t → valid-utf8-seq (k .keyProviderId) ≡ false
       → operation (add-encrypted-data-key k (length buffer)) buffer 0 ≡ refused 16 0
-  pub too-large : (b : HeaderBody) (t : ℕ) → operation read-draft buffer 0 ≡ accepted b t → valid-utf8-seq (k .keyProviderId) ≡ true → addable k b ≡ false
+  pub too-large : (b : HeaderBody) (t : ℕ) → operation read-draft buffer 0 ≡ accepted b t → valid-utf8-seq (k .keyProviderId) ≡ true → addable k (length (b .keys)) ≡ false
       → operation (add-encrypted-data-key k (length buffer)) buffer 0 ≡ refused 27 0
-  pub too-short : (b : HeaderBody) (t : ℕ) → operation read-draft buffer 0 ≡ accepted b t → valid-utf8-seq (k .keyProviderId) ≡ true → addable k b ≡ true
+  pub too-short : (b : HeaderBody) (t : ℕ) → operation read-draft buffer 0 ≡ accepted b t → valid-utf8-seq (k .keyProviderId) ≡ true → addable k (length (b .keys)) ≡ true
       → length buffer < t + length (write-encrypted-data-key k) → operation (add-encrypted-data-key k (length buffer)) buffer 0 ≡ refused 28 0
-  pub fits : (b : HeaderBody) (t : ℕ) → operation read-draft buffer 0 ≡ accepted b t → valid-utf8-seq (k .keyProviderId) ≡ true → addable k b ≡ true
+  pub fits : (b : HeaderBody) (t : ℕ) → operation read-draft buffer 0 ≡ accepted b t → valid-utf8-seq (k .keyProviderId) ≡ true → addable k (length (b .keys)) ≡ true
       → t + length (write-encrypted-data-key k) ≤ length buffer
       → (operation (add-encrypted-data-key k (length buffer)) buffer 0 ≡ accepted (added-image k b) t)
       × Added k buffer b t (length (added-image k b)) (buffer-after (operation (add-encrypted-data-key k (length buffer)) buffer 0) buffer)

@@ -55,16 +55,16 @@ drop-encrypted-data-keys id = do
   test 40 (some-remain id b)
   return (dropped-image id b)
 
--- 27: a part above 65,535 bytes, or 65,535 keys already
-abbrev pub addable : EncryptedDataKey → HeaderBody → Bool
-addable k b = every has-uint16-len (key-parts k) && ltb (length (b .keys)) 65535
+-- 27, by how many keys there are: a part above 65,535 bytes, or 65,535 keys already
+abbrev pub addable : EncryptedDataKey → ℕ → Bool
+addable k n = every has-uint16-len (key-parts k) && ltb n 65535
 
 -- Adding a key, in a buffer of that many bytes, gives the longer draft, and, as the tail, that of the draft that was read.
 unfoldable pub add-encrypted-data-key : EncryptedDataKey → ℕ → Reader (List ℕ)
 add-encrypted-data-key k room = do
   b ← read-draft
   test 16 (valid-utf8-seq (k .keyProviderId))
-  test 27 (addable k b)
+  test 27 (addable k (length (b .keys)))
   fitting room (added-image k b)
 
 -- The buffer afterwards: the draft that is given; 00 from its end up to the tail of the draft that was read, where that lies behind it;

@@ -1,7 +1,7 @@
 -- The numbers of a record and its tables give the length of its text. Assumes nothing.
-use mathlib.Core.Path.{_≡_, refl, sym, ap, _∙_}
+use mathlib.Core.Path.{_≡_, refl, sym, _∙_}
 use mathlib.Core.Bool.{Bool, true, false, cond}
-use mathlib.Core.List.{List, [], _∷_, _++_}
+use mathlib.Core.List.{List, [], _∷_}
 use Prim.Native.Nat.{ℕ, zero, suc, _+_, _*_, _-_, _<_}
 use native.Mathlib.Nat.{mul-suc, mul-zero}
 use native.Mathlib.Omega.{arith}
@@ -10,6 +10,8 @@ use lib.ListN.{length, getD, length-append, length-take, length-drop}
 use Rattle.format.specs.Serialize.{images, sum}
 use Rattle.format.specs.Lent.{bytes-at, items, here, part-in}
 use Rattle.format.specs.Demand3.{Each}
+use Rattle.format.proofs.Serialize.{sum-append}
+use Rattle.format.proofs.Tables.{items-append}
 use Rattle.body_reader.specs.declared.HeaderBody.{HeaderBody}
 use Rattle.text.specs.Text.{hex}
 use Rattle.listing_text.specs.Listing.{word-pair, word-key, word-data}
@@ -25,20 +27,6 @@ part-long m word start n t =
     let a = hex-long (bytes-at m start n) in
     let b = field-long (hex (bytes-at m start n)) in
     rw line-long (omega (arith, t .whole))
-
--- one row of places behind another
-items-append : (a b j : ℕ) → items here 2 (a + b) j ≡ items here 2 a j ++ items here 2 b (j + 2 * a)
-unfolding items
-items-append zero b j = let e : 0 + b ≡ b = omega arith in let f : j + 2 * 0 ≡ j = omega arith in rw (e, f)
-items-append (suc a) b j =
-    let e : suc a + b ≡ suc (a + b) = omega arith in
-    let f : j + 2 * suc a ≡ j + 2 + 2 * a = omega arith in
-    rw (e, f) (ap (λ (l : List ℕ). j ∷ l) (items-append a b (j + 2)))
-
-sum-append : (f : ℕ → ℕ) (xs ys : List ℕ) → sum f (xs ++ ys) ≡ sum f xs + sum f ys
-unfolding sum
-sum-append f [] ys = omega arith
-sum-append f (x ∷ xs) ys = let e = sum-append f xs ys in omega arith
 
 module _ (m table : List ℕ) where
   field-size : (j : ℕ) → PartThere m table j → length (part-field m table j) ≡ part-size table j
@@ -61,7 +49,7 @@ module _ (m table : List ℕ) where
       let f = items-long word n c (j + 2 * n) (h .1) in
       let g : n * suc c ≡ n + n * c = rw mul-suc (omega arith) in
       let k : (length word + 1) * suc c ≡ (length word + 1) * c + (length word + 1) = rw mul-suc refl in
-      rw (g, k, items-append n (n * c) j, sum-append, length-append, line-long) (omega arith)
+      rw (g, k, items-append here 2 n (n * c) j, sum-append, length-append, line-long) (omega arith)
 
 data-long : (m : List ℕ) (version start n : ℕ) → There m start n → length (data-text m version start n) ≡ data-size version n
 unfolding data-text

@@ -12,7 +12,7 @@ use Rattle.format.specs.Context.{pair-length, linear-length, write-aad-pair, wr
 use Rattle.format.specs.Lent.{bytes-at}
 use Rattle.format.specs.Places.{number16, entry-end, pair-here, pair-end}
 use Rattle.format.proofs.Context.{length-pair, length-pairs}
-use Rattle.format.proofs.Serialize.{length-uint16, length-entry}
+use Rattle.format.proofs.Serialize.{length-uint16, length-entry, images-append, sum-append}
 use Rattle.steps.proofs.Numbers.{length-part}
 use Rattle.wire.specs.Codes.{because}
 use Rattle.wire.specs.Stored.{stored}
@@ -21,8 +21,6 @@ use Rattle.entries.specs.Codes.{EntryIs}
 use Rattle.entries.specs.declared.Entry.{Entry}
 use Rattle.checks.specs.declared.WriteAnswer.{WriteAnswer}
 use Rattle.checks.specs.declared.WriteAnswer.the-variants.{Written, Refused}
-use Rattle.format.proofs.Serialize.{images-append}
-use Rattle.checks.proofs.Items.{sum-append}
 use Rattle.checks.proofs.Writers.{stored-first, chain}
 use Rattle.pair_index.specs.Index.{pair-from}
 use Rattle.only_authenticated.specs.Codes.{Puts}

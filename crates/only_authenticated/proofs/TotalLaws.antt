@@ -13,7 +13,7 @@ use Rattle.format.specs.Places.{number16, entry-end, pair-here, pair-end}
 use Rattle.steps.proofs.Numbers.{length-part}
 use Rattle.entries.specs.Codes.{EntryIs}
 use Rattle.entries.specs.declared.Entry.{Entry}
-use Rattle.checks.proofs.Items.{sum-append}
+use Rattle.format.proofs.Serialize.{sum-append}
 use Rattle.pair_index.specs.Index.{PairInside, pair-from}
 use Rattle.context.specs.Stepping.{HasPairs}
 use Rattle.only_authenticated.specs.Marks.{is-marked, marked-at, marked, Adds}

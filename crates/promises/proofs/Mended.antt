@@ -74,12 +74,12 @@ module _ (k : EncryptedDataKey) (before after : List ℕ) (r : WriteAnswer) (hb 
   -- where it accepts, its tests passed
   back : (tail : ℕ) → r ≡ Written tail → (b : HeaderBody) (t : ℕ) → operation read-draft before 0 ≡ accepted b t → Absent (k .keyProviderId) (fields-of b .keys)
       → (after′ : List ℕ) (r′ : WriteAnswer) → Drops (k .keyProviderId) after after′ r′ → (r′ ≡ Written t) × (after′ ≡ take t before ++ (zeros (tail - t) ++ drop tail before))
-  back tail w b t e absent after′ r′ call′ = by (valid-utf8-seq (k .keyProviderId)) refl (addable k b) refl (leb (t + length (write-encrypted-data-key k)) (length before)) refl
+  back tail w b t e absent after′ r′ call′ = by (valid-utf8-seq (k .keyProviderId)) refl (addable k (length (b .keys))) refl (leb (t + length (write-encrypted-data-key k)) (length before)) refl
     where
       no : (j : ℕ) → r ≡ Refused (because j 0) → (r′ ≡ Written t) × (after′ ≡ take t before ++ (zeros (tail - t) ++ drop tail before))
       no j f = let y : Refused (because j 0) ≡ Written tail = sym f ∙ w in let z : _≡_ {A = ℕ} 0 1 = cc in absurd (omega arith)
 
-      by : (x : Bool) → valid-utf8-seq (k .keyProviderId) ≡ x → (y : Bool) → addable k b ≡ y → (z : Bool) → leb (t + length (write-encrypted-data-key k)) (length before) ≡ z
+      by : (x : Bool) → valid-utf8-seq (k .keyProviderId) ≡ x → (y : Bool) → addable k (length (b .keys)) ≡ y → (z : Bool) → leb (t + length (write-encrypted-data-key k)) (length before) ≡ z
           → (r′ ≡ Written t) × (after′ ≡ take t before ++ (zeros (tail - t) ++ drop tail before))
       by false p y q z s = no 16 (every-addition .not-utf8 b t e p)
       by true p false q z s = no 27 (every-addition .too-large b t e p q)

@@ -38,10 +38,10 @@ pub record DropPromise (id before after : List ℕ) (r : WriteAnswer) : Type 0 w
 pub record AddPromise (k : EncryptedDataKey) (before after : List ℕ) (r : WriteAnswer) : Type 0 where
   pub reading-refused : (j p : ℕ) → operation read-draft before 0 ≡ refused j p → r ≡ Refused (because j p)
   pub not-utf8 : (b : HeaderBody) (t : ℕ) → operation read-draft before 0 ≡ accepted b t → valid-utf8-seq (k .keyProviderId) ≡ false → r ≡ Refused (because 16 0)
-  pub too-large : (b : HeaderBody) (t : ℕ) → operation read-draft before 0 ≡ accepted b t → valid-utf8-seq (k .keyProviderId) ≡ true → addable k b ≡ false → r ≡ Refused (because 27 0)
-  pub too-short : (b : HeaderBody) (t : ℕ) → operation read-draft before 0 ≡ accepted b t → valid-utf8-seq (k .keyProviderId) ≡ true → addable k b ≡ true
+  pub too-large : (b : HeaderBody) (t : ℕ) → operation read-draft before 0 ≡ accepted b t → valid-utf8-seq (k .keyProviderId) ≡ true → addable k (length (b .keys)) ≡ false → r ≡ Refused (because 27 0)
+  pub too-short : (b : HeaderBody) (t : ℕ) → operation read-draft before 0 ≡ accepted b t → valid-utf8-seq (k .keyProviderId) ≡ true → addable k (length (b .keys)) ≡ true
       → length before < t + length (write-encrypted-data-key k) → r ≡ Refused (because 28 0)
-  pub fits : (b : HeaderBody) (t : ℕ) → operation read-draft before 0 ≡ accepted b t → valid-utf8-seq (k .keyProviderId) ≡ true → addable k b ≡ true
+  pub fits : (b : HeaderBody) (t : ℕ) → operation read-draft before 0 ≡ accepted b t → valid-utf8-seq (k .keyProviderId) ≡ true → addable k (length (b .keys)) ≡ true
       → t + length (write-encrypted-data-key k) ≤ length before → (r ≡ Written (t + length (write-encrypted-data-key k))) × Added k before b t (t + length (write-encrypted-data-key k)) after
   pub keeps : (q : Refusal) → r ≡ Refused q → after ≡ before
 
