@@ -180,6 +180,9 @@ BafirolenSection bafirolen_read_frames(const uint8_t *message, size_t message_le
 
 /*
  * Writes the context section of the pairs in the table: 00 00 where there is none, else 4 bytes, 4 for each pair and its parts.
+ * If two lists of pairs, joined, are accepted, so is each of them, and what the joined section has behind its first 4 bytes is what
+ * the first one's has there and then what the second one's has; an empty one's has nothing there. A list that is accepted is
+ * accepted in any other order, and its section is then as long and begins with the same 4 bytes.
  * Refuses: 26 27 10 11 12 13 28.
  * Stack: BAFIROLEN_STACK_WRITE.
  */
@@ -207,7 +210,8 @@ BafirolenWritten bafirolen_write_header_auth_tag(uint32_t suite, const uint8_t *
 /*
  * Writes a header body. Pairs and keys have their places in one text; message ID and suite data are bytes of their own. A body
  * takes 34 bytes in version 1 and 76 in version 2; where it has a pair or is marked old, 2 more; 4 for each pair, 6 for each key,
- * and their parts: bafirolen_header_body_len adds them up. Under a commitment policy: bafirolen_write_header_body_under_policy.
+ * and their parts: bafirolen_header_body_len adds them up. With its pairs in another order a body that is accepted is accepted, as
+ * long, and the same but for the bytes of those pairs. Under a commitment policy: bafirolen_write_header_body_under_policy.
  * numbers.form: BAFIROLEN_TODAY, and an empty context is written 00 00; any other number: old, and it is written 00 02 00 00.
  * Refuses: 3 5 6 7 24 26 27 10 11 12 13 33 38 16 17 19 25 20 28.
  * 26 and 27 are tested of the pairs before 10, of the keys after 33 and before 38; 33 only where the form is old, 38 without a key.
@@ -262,6 +266,7 @@ BafirolenWritten bafirolen_frames_len(uint32_t frame_length, const uint8_t *text
  * section has it; no length stands in front. For a body that was accepted bafirolen_context_start gives the start.
  * required: start and length of each key, places of `text`. The keys may be any bytes and stand in any order; one that no pair
  * has, or that is named twice, changes nothing. All numbers are taken: zeros at the end of a longer table are the empty key.
+ * For the same keys the same bytes are written, in whatever order the section has its pairs.
  * out: what is written takes 2 bytes, 4 for each pair, and its parts. It is never longer than the whole section, nor than 65,535
  * bytes: an output of either length is never too short.
  * Refuses: 1 2 32 8 9 10 11 12 14 31 28.

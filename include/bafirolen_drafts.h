@@ -39,6 +39,12 @@ extern "C" {
  * another is not that one, and one that is not UTF-8 is no key's.
  * draft: what stays closes up in its order, the count falls, and the bytes that are freed, from the new tail up to the old one, are
  * 00. The bytes behind the old tail are left as they were. Where no key has that ID nothing changes, and `length` is the tail.
+ * The keys of two IDs may be dropped in either order. If a key remains after both, every byte of the buffer is then the same, and
+ * so is the second `length`: the draft with neither, 00 up to where the first one ended, and what was behind that. The two may be
+ * the same, begin one another, or be no key's. If none would remain, a call is refused by 40 in either order, and by no other
+ * number. Where every key has one of the two, it is the call that was to drop that one, first or second, or both calls where the
+ * two are the same, and the buffer stays as it was. Where some keys have the one and all others the other, it is the second call,
+ * and the keys that it was to drop are left.
  * Refuses: 1 2 3 5 6 7 32 8 9 10 11 12 14 38 16 17 18 19 20 40.
  * 5, 18 and 19 only of a draft of version 1; 40 where every key has that ID.
  * Stack: BAFIROLEN_STACK_READ.

@@ -25,11 +25,6 @@ static const struct key samples[] = {KEY("", "", ""), KEY("p", "\0\1p", "\xAA"),
 static const struct key others[] = {KEY("p12", "", ""), KEY("1", "", "b"), KEY("p2", "", ""), KEY("P1", "", ""),
                                     KEY("\xC3", "", ""), KEY("\xFF", "", ""), KEY("\0\1p", "", "")};
 
-static int has_id(const struct key *k, const struct key *of)
-{
-    return k->lengths[0] == of->lengths[0] && memcmp(k->parts[0], of->parts[0], k->lengths[0]) == 0;
-}
-
 /* the ID of a key dropped from a draft of these keys */
 static void drop_from(uint32_t version, size_t context, const struct key *keys, size_t count, const struct key *gone)
 {

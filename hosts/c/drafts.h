@@ -28,6 +28,12 @@ static inline size_t taken_by(const struct key *k)
     return 6 + k->lengths[0] + k->lengths[1] + k->lengths[2];
 }
 
+/* whether a key has the ID of another */
+static inline int has_id(const struct key *k, const struct key *of)
+{
+    return k->lengths[0] == of->lengths[0] && memcmp(k->parts[0], of->parts[0], k->lengths[0]) == 0;
+}
+
 /* a section of these keys: its length */
 static inline size_t section_of(uint8_t *m, const struct key *keys, size_t count)
 {

@@ -47,6 +47,36 @@ use crate::{Key, Refusal};
 /// # }
 /// ```
 ///
+/// The keys of two IDs may be dropped in either order. If a key remains after
+/// both, every byte of the buffer is then the same, and so is the second answer:
+/// the draft with neither, 00 up to where the first one ended, and what was behind
+/// that. The two may be the same, begin one another, or be no key's.
+///
+/// If none would remain, a call is refused by 40 in either order, and by no other
+/// number. Where every key has one of the two, it is the call that was to drop that
+/// one, first or second, or both calls where the two are the same, and the buffer
+/// stays as it was. Where some keys have the one and all others the other, it is
+/// the second call, and the keys that it was to drop are left.
+///
+/// ```
+/// use bafirolen::{drop_encrypted_data_keys, Refusal};
+///
+/// # fn main() -> Result<(), Refusal> {
+/// let front = b"\x01\x80\x01\x78\x00\x01\x02\x03\x04\x05\x06\x07\x08\x09\x0A\x0B\x0C\x0D\x0E\x0F\x00\x00";
+/// let keys = b"\x00\x01p\x00\x00\x00\x01a\x00\x02p1\x00\x00\x00\x01b\x00\x02p2\x00\x00\x00\x01c";
+/// let back = b"\x02\x00\x00\x00\x00\x0C\x00\x00\x10\x00";
+/// let draft = [&front[..], &[0, 3], keys, back, b"rest"].concat();
+///
+/// let (mut one, mut other) = (draft.clone(), draft);
+/// drop_encrypted_data_keys(&mut one, b"p")?;
+/// let tail = drop_encrypted_data_keys(&mut one, b"p1")?;
+/// drop_encrypted_data_keys(&mut other, b"p1")?;
+/// assert_eq!(drop_encrypted_data_keys(&mut other, b"p"), Ok(tail));
+/// assert_eq!(one, other);
+/// # Ok(())
+/// # }
+/// ```
+///
 /// # Errors
 ///
 /// Those of reading the body, and then one more, in the order of the tests:

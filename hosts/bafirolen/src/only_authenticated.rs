@@ -17,7 +17,8 @@ use crate::Refusal;
 /// `required` has start and length of each key, places of `text`. The keys may
 /// be any bytes and stand in any order; one that no pair has, or that is named
 /// twice, changes nothing. All numbers of the table are taken: zeros at the end
-/// of a longer one are the empty key.
+/// of a longer one are the empty key. For the same keys the same bytes are
+/// written, in whatever order the section has its pairs.
 ///
 /// The section is read, and nothing before or after it: of a header that was
 /// read, [`context_start`](crate::Body::context_start) gives the start.

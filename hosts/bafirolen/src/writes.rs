@@ -17,6 +17,12 @@ pub(crate) fn length(record: BafirolenWritten) -> Result<usize, Refusal> {
 /// [`Draft`] says. A section alone has no form: an empty one is written 00 00,
 /// however it was read.
 ///
+/// If two lists of pairs, joined, are accepted, so is each of them, and what the
+/// joined section has behind its first 4 bytes is what the first one's has there
+/// and then what the second one's has; an empty one's has nothing there. A list
+/// that is accepted is accepted in any other order, and its section is then as
+/// long and begins with the same 4 bytes.
+///
 /// # Errors
 ///
 /// In the order of the tests:
@@ -76,7 +82,9 @@ pub fn write_encrypted_data_keys_section(
 
 /// Writes the body of a draft to the front of `out`, an empty context in the
 /// draft's form, under the draft's policy if it names one; answers its length,
-/// which [`header_body_len`](crate::header_body_len) gives before.
+/// which [`header_body_len`](crate::header_body_len) gives before. With its pairs
+/// in another order a body that is accepted is accepted, as long, and the same but
+/// for the bytes of those pairs.
 ///
 /// # Errors
 ///

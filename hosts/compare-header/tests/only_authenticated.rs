@@ -5,6 +5,7 @@ use compare_header::answers::Answers;
 use compare_header::every::{required, section_of};
 use compare_header::numbers::{number, Answer};
 use compare_header::{compared, reads, writes};
+use generator::arrangements::orders;
 use generator::image::only_authenticated;
 use generator::large::agreeing;
 use generator::random::Random;
@@ -18,24 +19,6 @@ const KEYS: [&str; 5] = ["", "a", "ab", "b", "\u{e9}"];
 fn pairs_of(order: &[usize]) -> Vec<Pair> {
     let pair = |&at: &usize| (KEYS[at].as_bytes().to_vec(), vec![b'0' + at as u8]);
     order.iter().map(pair).collect()
-}
-
-/// Every order of the numbers below a count.
-fn orders(count: usize) -> Vec<Vec<usize>> {
-    let mut orders = vec![Vec::new()];
-    for number in 0..count {
-        let longer = |order: &Vec<usize>| {
-            (0..=order.len())
-                .map(|at| {
-                    let mut order = order.clone();
-                    order.insert(at, number);
-                    order
-                })
-                .collect::<Vec<_>>()
-        };
-        orders = orders.iter().flat_map(longer).collect();
-    }
-    orders
 }
 
 /// Five pairs in every order, and all that can be required of them: the image

@@ -2,11 +2,13 @@
 //! them, intact and damaged.
 //!
 //! Every function is determined by its seed; `faults`, `rows` and
-//! `section_ends`, which are written by hand, have none. Images are built here, by concatenation, so
-//! that they depend on no codec. Where the damage decides the answer, the case
-//! says which answer is expected.
+//! `section_ends`, which are written by hand, have none, nor has `arrangements`,
+//! which leaves nothing out. Images are built here, by concatenation, so that
+//! they depend on no codec. Where the damage decides the answer, the case says
+//! which answer is expected.
 #![forbid(unsafe_code)]
 
+pub mod arrangements;
 pub mod auth_cases;
 pub mod body_cases;
 pub mod body_write_cases;

@@ -67,7 +67,7 @@ pub fn drop_case(seed: u64) -> DropCase {
 /// A provider ID to ask for: that of the first key, of the last or of any, one
 /// near to it, or bytes of any kind, which may be no text, or longer than an ID
 /// can be.
-fn asked(random: &mut Random, keys: &[Key]) -> Vec<u8> {
+pub fn asked(random: &mut Random, keys: &[Key]) -> Vec<u8> {
     let ids: Vec<&[u8]> = keys.iter().map(|key| &key[0][..]).collect();
     let any = match ids.len() {
         0 => &[],
