@@ -13,8 +13,8 @@ use Rattle.format.specs.Context.{tolerant, read-aad-section, write-aad-pair, wr
 use Rattle.format.specs.Checks.{check, first, pairs-checks}
 use Rattle.format.specs.Lent.{bytes-at, filled, pairs-in, table-checks, table-after, writing-aad-section}
 use Rattle.format.specs.OnlyAuthenticated.{write-only-authenticated}
-use Rattle.format.specs.Mending.{read-draft}
-use Rattle.format.specs.Arrangement.{Rearranged, Accepted, Asked, asks, drop-keys, after-drop, Remains, neither, AllHave, AllHaveEither}
+use Rattle.format.specs.Mending.{read-draft, dropped-image}
+use Rattle.format.specs.Arrangement.{Rearranged, Accepted, Asked, asks, drop-keys, after-drop, Remains, AllHave, AllHaveEither}
 use Rattle.format.proofs.Tests.{leb-is}
 use Rattle.format.proofs.Exact.{map-puts}
 use Rattle.format.proofs.Context.{Context, context-at, pair-at}
@@ -22,6 +22,8 @@ use Rattle.format.proofs.Section.{section-exact}
 use Rattle.format.proofs.Firsts.{holds, unheld, split, join}
 use Rattle.format.proofs.Accepts.{pairs-then}
 use Rattle.format.proofs.Sections.{reads}
+use Rattle.format.proofs.Messages.{refused-is-no-accepted}
+use Rattle.format.proofs.Mended.{mended-drafts}
 use Rattle.format.proofs.EitherOrder.{kept}
 use Rattle.format.proofs.Arrangement.{arrangement}
 use Rattle.wire.specs.Codes.{because}
@@ -29,7 +31,7 @@ use Rattle.checks.specs.Answers.{written-as}
 use Rattle.checks.specs.declared.WriteAnswer.the-variants.{Written, Refused}
 use Rattle.only_authenticated.specs.Codes.{whole}
 use Rattle.promises.specs.OnlyAuthenticated.{Call, Meets}
-use Rattle.promises.specs.Arrangement.{Section, Wrote, front-bytes, entry-bytes, Lends, JoinedCalls, SameRequired, SameBytes, Of, TwoDrops, ArrangementPromises}
+use Rattle.promises.specs.Arrangement.{Section, Wrote, front-bytes, entry-bytes, Lends, JoinedCalls, SameRequired, SameBytes, Of, TwoDrops, EitherOrder, AllOfOne, SomeOfBoth, ArrangementPromises}
 use Rattle.promises.proofs.Writer.{by-checks}
 
 -- bytes that stand behind the first k of an image are those of the image, whatever follows it
@@ -177,34 +179,58 @@ module _ (p q before : List ℕ) (two : TwoDrops p q before) where
   after-is = two .second-call .buffer ∙ ap (after-drop q) between-is
 
 module _ (p q before : List ℕ) (hb : Bytes before) (b : HeaderBody) (t : ℕ) (e : operation read-draft before 0 ≡ accepted b t) (one : TwoDrops p q before) (other : TwoDrops q p before) where
-  either-order : Remains p q (fields-of b .keys) → (tail : ℕ) × (one .then ≡ Written tail) × (other .then ≡ Written tail) × (one .after ≡ other .after)
+  either-order : Remains p q (fields-of b .keys) → EitherOrder p q before b t one other
   either-order r =
-      let law = arrangement .either-order p q before hb b t e r in (
-        length (neither p q b),
-        then-is p q before one ∙ ap written-as (law .p-first .then),
-        then-is q p before other ∙ ap written-as (law .q-first .then),
-        after-is p q before one ∙ law .same-buffer ∙ sym (after-is q p before other),
-      )
+      let law = arrangement .either-order p q before hb b t e r in
+      let tail-is = then-is p q before one ∙ ap written-as (law .p-first .then) in
+      record {
+        at-first = (first-is p q before one ∙ ap written-as (law .p-first .at-first), first-is q p before other ∙ ap written-as (law .q-first .at-first));
+        tail = tail-is;
+        same-tail = tail-is ∙ sym (then-is q p before other ∙ ap written-as (law .q-first .then));
+        buffer = after-is p q before one ∙ law .p-first .buffer-then;
+        same-buffer = after-is p q before one ∙ law .same-buffer ∙ sym (after-is q p before other);
+      }
 
-  all-of-one : AllHave p (fields-of b .keys) → (one .answer ≡ Refused (because 40 0)) × (other .then ≡ Refused (because 40 0)) × (one .after ≡ before) × (other .after ≡ before)
+  -- a drop that leaves the buffer gives the tail that there was: the draft there is read as before
+  tail-stays : drop-keys q before ≡ accepted (dropped-image q b) t → after-drop q before ≡ before → length (dropped-image q b) ≡ t
+  tail-stays said stays =
+      let law = mended-drafts .drops q before hb in
+      let left = law .some-remain b t e (λ z. refused-is-no-accepted (sym (law .none-remains b t e z) ∙ said)) .1 .draft in
+      let again : accepted b t ≡ accepted (left .body) (length (dropped-image q b)) = sym e ∙ ap (λ l. operation read-draft l 0) (sym stays) ∙ left .reads in
+      cc
+
+  all-of-one : AllHave p (fields-of b .keys) → AllOfOne p q before t one other
   all-of-one a =
       let law = arrangement .all-of-one p q before hb b t e a in
-      let again : drop-keys p (after-drop q before) ≡ refused 40 0 = ap (drop-keys p) (law .draft-stays) ∙ law .p-refused in (
-        first-is p q before one ∙ ap written-as (law .p-refused),
-        then-is q p before other ∙ ap written-as again,
-        after-is p q before one ∙ ap (after-drop q) (kept p before (law .p-refused)) ∙ law .draft-stays,
-        after-is q p before other ∙ kept p _ again ∙ law .draft-stays,
-      )
+      let stays = law .draft-stays in
+      let kept-p : after-drop p before ≡ before = kept p before (law .p-refused) in
+      let again : drop-keys p (after-drop q before) ≡ refused 40 0 = ap (drop-keys p) stays ∙ law .p-refused in
+      let then-q : one .then ≡ written-as (drop-keys q before) = then-is p q before one ∙ ap (λ l. written-as (drop-keys q l)) kept-p in
+      let first-q : other .answer ≡ written-as (drop-keys q before) = first-is q p before other in
+      record {
+        p-refused = (first-is p q before one ∙ ap written-as (law .p-refused), then-is q p before other ∙ ap written-as again);
+        q-refused = λ z.
+            (let no : written-as (drop-keys q before) ≡ Refused (because 40 0) = ap (λ id. written-as (drop-keys id before)) (sym z) ∙ ap written-as (law .p-refused) in
+            (then-q ∙ no, first-q ∙ no));
+        q-absent = λ d.
+            (let said = law .q-absent d in
+            let yes : written-as (drop-keys q before) ≡ Written t = ap written-as said ∙ ap Written (tail-stays said stays) in
+            (then-q ∙ yes, first-q ∙ yes));
+        buffer-stays = (after-is p q before one ∙ ap (after-drop q) kept-p ∙ stays, after-is q p before other ∙ kept p _ again ∙ stays);
+      }
 
-  some-of-both : AllHaveEither p q (fields-of b .keys) → (AllHave p (fields-of b .keys) → ⊥) → (AllHave q (fields-of b .keys) → ⊥)
-      → (one .then ≡ Refused (because 40 0)) × (other .then ≡ Refused (because 40 0)) × (one .after ≡ one .between) × (one .after ≡ other .after → ⊥)
+  some-of-both : AllHaveEither p q (fields-of b .keys) → (AllHave p (fields-of b .keys) → ⊥) → (AllHave q (fields-of b .keys) → ⊥) → SomeOfBoth p q before b one other
   some-of-both a not-p not-q =
-      let law = arrangement .some-of-both p q before hb b t e a not-p not-q in (
-        then-is p q before one ∙ ap written-as (law .p-first .then),
-        then-is q p before other ∙ ap written-as (law .q-first .then),
-        after-is p q before one ∙ kept q _ (law .p-first .then) ∙ sym (between-is p q before one),
-        λ same. law .order-shows (sym (after-is p q before one) ∙ same ∙ after-is q p before other),
-      )
+      let law = arrangement .some-of-both p q before hb b t e a not-p not-q in
+      record {
+        at-first = (first-is p q before one ∙ ap written-as (law .p-first .at-first), first-is q p before other ∙ ap written-as (law .q-first .at-first));
+        then-refused = (then-is p q before one ∙ ap written-as (law .p-first .then), then-is q p before other ∙ ap written-as (law .q-first .then));
+        first-stays = (
+          after-is p q before one ∙ kept q _ (law .p-first .then) ∙ sym (between-is p q before one),
+          after-is q p before other ∙ kept p _ (law .q-first .then) ∙ sym (between-is q p before other),
+        );
+        order-shows = λ same. law .order-shows (sym (after-is p q before one) ∙ same ∙ after-is q p before other);
+      }
 
 pub arrangement-promises : ArrangementPromises
 arrangement-promises =

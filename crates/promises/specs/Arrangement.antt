@@ -10,10 +10,10 @@ use Rattle.format.specs.Serialize.{Bytes}
 use Rattle.format.specs.Fields.{PairAt, pair-of, HeaderBody, fields-of}
 use Rattle.format.specs.Context.{tolerant, read-aad-section}
 use Rattle.format.specs.Checks.{first}
-use Rattle.format.specs.Lent.{bytes-at, pairs-in, parts-in, table-checks, writing-aad-section}
-use Rattle.format.specs.Mending.{read-draft}
+use Rattle.format.specs.Lent.{bytes-at, filled, pairs-in, parts-in, table-checks, writing-aad-section}
+use Rattle.format.specs.Mending.{read-draft, dropped-image, mended}
 use Rattle.format.specs.Pinned.{InText}
-use Rattle.format.specs.Arrangement.{Rearranged, SameKeys, Remains, AllHave, AllHaveEither}
+use Rattle.format.specs.Arrangement.{Rearranged, SameKeys, Remains, neither, AllHave, AllHaveEither}
 use Rattle.wire.specs.Codes.{because}
 use Rattle.checks.specs.Answers.{Writes}
 use Rattle.checks.specs.declared.WriteAnswer.{WriteAnswer}
@@ -80,6 +80,29 @@ pub record TwoDrops (p q before : List ℕ) : Type 0 where
   pub first-call : Drops p before between answer
   pub second-call : Drops q between after then
 
+-- Of a draft that was read as b and ends at t. A key remains: every call is accepted, and the draft with neither's keys is left in either order
+pub record EitherOrder (p q before : List ℕ) (b : HeaderBody) (t : ℕ) (one : TwoDrops p q before) (other : TwoDrops q p before) : Type 0 where
+  pub at-first : (one .answer ≡ Written (length (dropped-image p b))) × (other .answer ≡ Written (length (dropped-image q b)))
+  pub tail : one .then ≡ Written (length (neither p q b))
+  pub same-tail : one .then ≡ other .then
+  pub buffer : one .after ≡ filled (mended (neither p q b) t) before
+  pub same-buffer : one .after ≡ other .after
+
+-- None remains, and all have p: dropping it is refused by 40, first or second; the other call is refused too where q is p, and else gives the tail
+-- that there was; the buffer is as it was
+pub record AllOfOne (p q before : List ℕ) (t : ℕ) (one : TwoDrops p q before) (other : TwoDrops q p before) : Type 0 where
+  pub p-refused : (one .answer ≡ Refused (because 40 0)) × (other .then ≡ Refused (because 40 0))
+  pub q-refused : p ≡ q → (one .then ≡ Refused (because 40 0)) × (other .answer ≡ Refused (because 40 0))
+  pub q-absent : (p ≡ q → ⊥) → (one .then ≡ Written t) × (other .answer ≡ Written t)
+  pub buffer-stays : (one .after ≡ before) × (other .after ≡ before)
+
+-- None remains, and both are there: the second is refused by 40, and leaves what the first left, which is not the same in the other order
+pub record SomeOfBoth (p q before : List ℕ) (b : HeaderBody) (one : TwoDrops p q before) (other : TwoDrops q p before) : Type 0 where
+  pub at-first : (one .answer ≡ Written (length (dropped-image p b))) × (other .answer ≡ Written (length (dropped-image q b)))
+  pub then-refused : (one .then ≡ Refused (because 40 0)) × (other .then ≡ Refused (because 40 0))
+  pub first-stays : (one .after ≡ one .between) × (other .after ≡ other .between)
+  pub order-shows : one .after ≡ other .after → ⊥
+
 pub record ArrangementPromises : Type 0 where
   pub joined : (joined one two : Section) → Wrote joined → Wrote one → Wrote two
       → pairs-in (joined .text) (joined .table) ≡ pairs-in (one .text) (one .table) ++ pairs-in (two .text) (two .table)
@@ -93,12 +116,9 @@ pub record ArrangementPromises : Type 0 where
   pub of-what-was-written : (c d : Section) → Wrote c → Wrote d → Rearranged (pairs-in (c .text) (c .table)) (pairs-in (d .text) (d .table))
       → (n : ℕ) → c .answer ≡ Written n → d .answer ≡ Written n → (x y : Call) → Meets x → Meets y → Of c x → Of d y → SameRequired x y → SameBytes x y
   pub either-order : (p q before : List ℕ) → Bytes before → (b : HeaderBody) (t : ℕ) → operation read-draft before 0 ≡ accepted b t → Remains p q (fields-of b .keys)
-      → (one : TwoDrops p q before) (other : TwoDrops q p before) → (tail : ℕ) × (one .then ≡ Written tail) × (other .then ≡ Written tail) × (one .after ≡ other .after)
-  -- where none remains, 40 comes in either order: from dropping p where all keys have it, and from the second drop where both are there
+      → (one : TwoDrops p q before) (other : TwoDrops q p before) → EitherOrder p q before b t one other
   pub all-of-one : (p q before : List ℕ) → Bytes before → (b : HeaderBody) (t : ℕ) → operation read-draft before 0 ≡ accepted b t → AllHave p (fields-of b .keys)
-      → (one : TwoDrops p q before) (other : TwoDrops q p before)
-      → (one .answer ≡ Refused (because 40 0)) × (other .then ≡ Refused (because 40 0)) × (one .after ≡ before) × (other .after ≡ before)
+      → (one : TwoDrops p q before) (other : TwoDrops q p before) → AllOfOne p q before t one other
   pub some-of-both : (p q before : List ℕ) → Bytes before → (b : HeaderBody) (t : ℕ) → operation read-draft before 0 ≡ accepted b t
       → AllHaveEither p q (fields-of b .keys) → (AllHave p (fields-of b .keys) → ⊥) → (AllHave q (fields-of b .keys) → ⊥)
-      → (one : TwoDrops p q before) (other : TwoDrops q p before)
-      → (one .then ≡ Refused (because 40 0)) × (other .then ≡ Refused (because 40 0)) × (one .after ≡ one .between) × (one .after ≡ other .after → ⊥)
+      → (one : TwoDrops p q before) (other : TwoDrops q p before) → SomeOfBoth p q before b one other
