@@ -14,19 +14,11 @@ use Rattle.body_reader.specs.Codes.{ReadsBody as Reads}
 use Rattle.body_reader.specs.declared.HeaderBody.{HeaderBody as BodyCode}
 use Rattle.body_reader.specs.declared.HeaderBodyAnswer.{HeaderBodyAnswer}
 use Rattle.body_reader.specs.declared.HeaderBodyAnswer.the-variants.{Accepted, Refused}
-use Rattle.bafirolen_c.specs.declared.BafirolenBody.{BafirolenBody}
-use Rattle.bafirolen_c.specs.Asked.{which-asked, mode-asked, max-asked, policy-asked, request-asked}
-use Rattle.bafirolen_c.specs.Exports.{body-with, no-body, body-record, body-fields, ReadsBody, answer-number, answer-position}
-
-pub body-accepted : (a : HeaderBodyAnswer) (b : BodyCode) (t : ℕ) → a ≡ Accepted b t → (r : BafirolenBody) → r ≡ body-with b t → r ≡ body-fields a
-body-accepted a b t e r f = f ∙ sym (ap body-fields e)
-
-pub body-refused : (a : HeaderBodyAnswer) (q : Refusal) → a ≡ Refused q → (r : BafirolenBody) → r ≡ no-body (q .number) (q .position) → r ≡ body-fields a
-body-refused a q e r f = f ∙ sym (ap body-fields e)
-
-body-as : (o : Answer BodyRead) → body-fields (body-of o) ≡ body-record o
-body-as (accepted b t) = refl
-body-as (refused k p) = refl
+use Rattle.crossing.specs.declared.BafirolenBody.{BafirolenBody}
+use Rattle.crossing.specs.Asked.{which-asked, mode-asked, max-asked, policy-asked, request-asked}
+use Rattle.crossing.specs.Records.{body-fields}
+use Rattle.crossing.proofs.RecordLaws.{body-as}
+use Rattle.bafirolen_c.specs.Exports.{ReadsBody, answer-number, answer-position}
 
 body-crosses : (o : Answer BodyRead) (pairs pairs′ keys keys′ : List ℕ) (a : HeaderBodyAnswer) → Reads o pairs pairs′ keys keys′ a
     → (r : BafirolenBody) → r ≡ body-fields a → ReadsBody o pairs pairs′ keys keys′ r

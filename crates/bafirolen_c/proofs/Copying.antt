@@ -1,8 +1,8 @@
 -- The ways out of the copy of a value, one law each. Assumes nothing.
 use Prim.Native.Nat.{ℕ, _≤_, _<_}
 use native.Mathlib.Omega.{arith}
-use mathlib.Core.Path.{_≡_, refl, sym, ap, _∙_}
-use mathlib.Core.Bool.{true, cond}
+use mathlib.Core.Path.{_≡_, refl, ap, _∙_}
+use mathlib.Core.Bool.{true}
 use mathlib.Core.List.{List, [], _∷_}
 use denote.Ref.{RefT}
 use lib.Dec.{leb}
@@ -12,20 +12,12 @@ use Rattle.format.specs.Read.{Answer, accepted, refused}
 use Rattle.format.specs.Serialize.{Part}
 use Rattle.format.specs.Lent.{filled, found-part, bytes-at}
 use Rattle.wire.specs.Stored.{stored}
-use Rattle.wire.specs.declared.Refusal.{Refusal}
 use Rattle.context.specs.Codes.{found-of, PartOf}
 use Rattle.context.specs.declared.FoundAnswer.{FoundAnswer}
-use Rattle.context.specs.declared.FoundAnswer.the-variants as found
 use Rattle.checks.proofs.Writers.{stored-first, whole-bytes}
-use Rattle.bafirolen_c.specs.declared.BafirolenWritten.{BafirolenWritten}
-use Rattle.bafirolen_c.specs.Exports.{wrote, copied-record, copied-output, Copies, nothing-copied}
-
-module _ (a : FoundAnswer) (r : BafirolenWritten) where
-  pub copied-there : (s n : ℕ) → a ≡ found.At s n → r ≡ wrote 0 0 0 → r ≡ nothing-copied a
-  copied-there s n e f = f ∙ sym (ap nothing-copied e)
-
-  pub copied-refused : (q : Refusal) → a ≡ found.Refused q → r ≡ wrote (q .number) (q .position) 0 → r ≡ nothing-copied a
-  copied-refused q e f = f ∙ sym (ap nothing-copied e)
+use Rattle.crossing.specs.declared.BafirolenWritten.{BafirolenWritten}
+use Rattle.crossing.specs.Records.{wrote, nothing-copied}
+use Rattle.bafirolen_c.specs.Exports.{Copies}
 
 filled-none : (l out : List ℕ) → length l ≡ 0 → out ≡ filled l out
 filled-none [] out e = refl

@@ -1,4 +1,3 @@
 pub mod BodyCrossing
-pub mod Numbers
 pub mod Crossing
 pub mod Copying

@@ -1,13 +1,12 @@
 // The bytes of the pairs that are only authenticated.
-use crate::BafirolenWritten;
-use crate::writers::written_record;
-ghost use mathlib.Core.Path.{_≡_};
+use crossing::BafirolenWritten;
+use crossing::written::written_record;
 ghost use lib.ListN.{length};
 ghost use Rattle.format.specs.Read.{operation};
 ghost use Rattle.format.specs.OnlyAuthenticated.{write-only-authenticated};
 ghost use Rattle.entries.specs.Codes.{Reads};
-ghost use Rattle.only_authenticated.specs.Codes.{whole};
-ghost use Rattle.bafirolen_c.specs.Exports.{image-record};
+ghost use Rattle.checks.specs.Answers.{whole};
+ghost use Rattle.crossing.specs.Records.{image-record};
 
 // Two numbers a required key in the table, places of the text. On a refusal the output is as it was.
 #[no_mangle]

@@ -1,33 +1,16 @@
 // Finding a value, and copying it.
-use crate::BafirolenPlace;
-use crate::BafirolenWritten;
-use crate::writers::wrote;
-use context::FoundAnswer;
+use crossing::BafirolenPlace;
+use crossing::BafirolenWritten;
+use crossing::finding::nothing_copied;
+use crossing::finding::place_record;
+use crossing::written::wrote;
 use wire::refusals;
 use wire::writing::write;
 ghost use mathlib.Core.Path.{_≡_};
 ghost use Rattle.format.specs.Read.{operation};
 ghost use Rattle.format.specs.Context.{find-value};
-ghost use Rattle.bafirolen_c.specs.Exports.{place-record, found-fields, Copies, nothing-copied};
-
-fn place_record(a: FoundAnswer) -> BafirolenPlace
-    ensures { λ r. ⌜ r ≡ found-fields a ⌝ }
-{
-    match a {
-        FoundAnswer::At { start, len } => BafirolenPlace {
-            number: 0,
-            position: 0,
-            start,
-            len,
-        },
-        FoundAnswer::Refused(q) => BafirolenPlace {
-            number: q.number as u64,
-            position: q.position,
-            start: 0,
-            len: 0,
-        },
-    }
-}
+ghost use Rattle.crossing.specs.Records.{place-record};
+ghost use Rattle.bafirolen_c.specs.Exports.{Copies};
 
 // Where the value of the key stands, in the context section at the start, read tolerantly.
 #[no_mangle]
@@ -35,15 +18,6 @@ pub extern "C" fn bafirolen_find_value(m: &[u8], start: u64, key: &[u8]) -> Bafi
     ensures { λ r. ⌜ r ≡ place-record (operation (find-value (now (key .entry))) (now (m .entry)) start) ⌝ }
 {
     place_record(context::find_value(m, start, key))
-}
-
-fn nothing_copied(a: FoundAnswer) -> BafirolenWritten
-    ensures { λ r. ⌜ r ≡ nothing-copied a ⌝ }
-{
-    match a {
-        FoundAnswer::At { start: _, len: _ } => wrote(0, 0, 0),
-        FoundAnswer::Refused(q) => wrote(q.number, q.position, 0),
-    }
 }
 
 // Copies the value that `bafirolen_find_value` finds. An empty part is an empty value or a refusal, which only the answer of find tells.

@@ -1,8 +1,8 @@
 // The number and the position, by a call each, read as the listing program does: either version, tolerant, no maximum, tables of
 // 4,096 numbers; and the listing itself.
-use crate::BafirolenWritten;
-use crate::writers::written_record;
 use body_reader::HeaderBodyAnswer;
+use crossing::BafirolenWritten;
+use crossing::written::written_record;
 ghost use mathlib.Core.Path.{_≡_};
 ghost use Rattle.body_reader.specs.Codes.{body-of};
 ghost use Rattle.listing_text.specs.Listing.{as-listed, listing};

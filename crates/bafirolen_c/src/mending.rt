@@ -1,11 +1,11 @@
 // A draft, mended in the buffer in which it stands. On a refusal the buffer is as it was.
-use crate::BafirolenWritten;
-use crate::writers::written_record;
+use crossing::BafirolenWritten;
+use crossing::written::written_record;
 ghost use lib.ListN.{length};
 ghost use Rattle.format.specs.Read.{operation};
 ghost use Rattle.format.specs.Mending.{drop-encrypted-data-keys, add-encrypted-data-key};
 ghost use Rattle.drafts.specs.Codes.{Mends};
-ghost use Rattle.bafirolen_c.specs.Exports.{image-record};
+ghost use Rattle.crossing.specs.Records.{image-record};
 
 // The length is that of the draft without the keys of that provider ID.
 #[no_mangle]

@@ -1,10 +1,10 @@
 // A body under a policy: read, written, and what it takes before it is written. Number 0 names none, and then each answers as its counterpart.
-use crate::BafirolenBody;
-use crate::BafirolenWritten;
-use crate::asked::policy_asked;
-use crate::asked::request_asked;
-use crate::body::body_record;
-use crate::writers::written_record;
+use crossing::BafirolenBody;
+use crossing::BafirolenWritten;
+use crossing::asked::policy_asked;
+use crossing::asked::request_asked;
+use crossing::body::body_record;
+use crossing::written::written_record;
 use fields::BodyNumbers;
 ghost use mathlib.Core.Path.{_≡_};
 ghost use lib.ListN.{length};
@@ -13,8 +13,9 @@ ghost use Rattle.format.specs.Body.{read-header-body-under};
 ghost use Rattle.format.specs.Lent.{size-of, writing-header-body-under};
 ghost use Rattle.request.specs.Codes.{which-of, policy-of, mode-of, max-of};
 ghost use Rattle.body_write.specs.Lent.{body-to-write};
-ghost use Rattle.bafirolen_c.specs.Asked.{which-asked, mode-asked, max-asked, policy-asked};
-ghost use Rattle.bafirolen_c.specs.Exports.{ReadsBody, Writes, written-record};
+ghost use Rattle.crossing.specs.Asked.{which-asked, mode-asked, max-asked, policy-asked};
+ghost use Rattle.crossing.specs.Records.{written-record};
+ghost use Rattle.bafirolen_c.specs.Exports.{ReadsBody, Writes};
 
 #[no_mangle]
 pub extern "C" fn bafirolen_read_header_body_under_policy(

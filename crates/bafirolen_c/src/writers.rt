@@ -1,30 +1,12 @@
 // The five writers, and what a body or frames take before they are written. On a refusal the output is as it was.
-use crate::BafirolenWritten;
-use checks::WriteAnswer;
+use crossing::BafirolenWritten;
+use crossing::written::written_record;
 use fields::BodyNumbers;
 ghost use mathlib.Core.Path.{_≡_};
 ghost use Rattle.format.specs.Lent.{size-of, writing-aad-section, writing-encrypted-data-keys-section, writing-header-auth-tag, writing-header-body, writing-frames};
 ghost use Rattle.body_write.specs.Lent.{body-to-write};
-ghost use Rattle.bafirolen_c.specs.Exports.{Writes, wrote, write-fields, written-record};
-
-pub fn wrote(number: u8, position: u64, length: u64) -> BafirolenWritten
-    ensures { λ r. ⌜ r ≡ wrote number position length ⌝ }
-{
-    BafirolenWritten {
-        number: number as u64,
-        position,
-        length,
-    }
-}
-
-pub fn written_record(a: WriteAnswer) -> BafirolenWritten
-    ensures { λ r. ⌜ r ≡ write-fields a ⌝ }
-{
-    match a {
-        WriteAnswer::Written(n) => wrote(0, 0, n as u64),
-        WriteAnswer::Refused(q) => wrote(q.number, q.position, 0),
-    }
-}
+ghost use Rattle.crossing.specs.Records.{written-record};
+ghost use Rattle.bafirolen_c.specs.Exports.{Writes};
 
 // Four numbers a pair in the table, places of the text.
 #[no_mangle]

@@ -26,7 +26,7 @@ use Rattle.body_write.specs.Ready.{Small}
 use Rattle.fields.specs.Codes.{form-of, form-named}
 use Rattle.fields.specs.declared.BodyNumbers.{BodyNumbers}
 use Rattle.fields.specs.declared.Form.{Form}
-use Rattle.body_write.proofs.VersionLaws.{one-or-two-small, by-small}
+use Rattle.ends_write.proofs.VersionLaws.{one-or-two-small, by-small}
 
 module _ (n : BodyNumbers) (messageId suiteData text pairs keys : List ℕ) where
   abbrev opens : List Check

@@ -18,12 +18,13 @@ use Rattle.wire.proofs.StoreLaws.{stored-tail}
 use Rattle.checks.proofs.Writers.{chain, still-long}
 use Rattle.section_write.specs.Sizes.{aad-section-size, keys-section-size}
 use Rattle.section_write.proofs.Images.{aad-long, keys-long}
-use Rattle.body_write.specs.Lent.{body-to-write, write-opening, write-closing}
+use Rattle.ends_write.specs.Ends.{write-opening, write-closing}
+use Rattle.body_write.specs.Lent.{body-to-write}
 use Rattle.body_write.specs.Ready.{body-size, SectionsReady, BodyReady}
 use Rattle.fields.specs.Codes.{form-of, form-named}
 use Rattle.fields.specs.declared.BodyNumbers.{BodyNumbers}
 use Rattle.fields.specs.declared.Form.{Form}
-use Rattle.body_write.proofs.Ends.{opening-long, closing-long, ends-fit}
+use Rattle.ends_write.proofs.Ends.{opening-long, closing-long, ends-fit}
 use Rattle.body_write.proofs.BodyChecks.{version-small, type-small, suite-small, content-small, iv-small, body-pairs-passed, body-pairs-few, body-keys-passed, id-long, data-long}
 
 module _ (n : BodyNumbers) (messageId suiteData text pairs keys : List ℕ) where

@@ -1,7 +1,4 @@
-pub mod VersionLaws
-pub mod SuiteLaws
 pub mod PolicyLaws
-pub mod Ends
 pub mod FormLaws
 pub mod BodyChecks
 pub mod SectionStores

@@ -1,15 +1,13 @@
 // Writes a header body, or tells before what it takes. The writer goes by what is told: everything is tested before anything is stored,
 // so that a refusal leaves the output as it was.
-mod closing;
-mod opening;
-mod versions;
-
 use checks::Checked;
 use checks::WriteAnswer;
 use checks::fails;
 use checks::keys::check_keys;
 use checks::pairs::check_pairs;
 use checks::refuses;
+use ends_write::closing;
+use ends_write::opening;
 use fields::BodyNumbers;
 use fields::Form;
 use fields::form_named;

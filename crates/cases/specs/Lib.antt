@@ -3,6 +3,7 @@ pub mod Texts
 pub mod Headers
 pub mod Tags
 pub mod Drafts
+pub mod Reissues
 pub mod Frames
 pub mod Faults
 pub mod Policies

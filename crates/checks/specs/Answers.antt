@@ -25,6 +25,10 @@ abbrev pub written-as : Answer (List ℕ) → WriteAnswer
 written-as (accepted image t) = Written (length image)
 written-as (refused k p) = Refused (because k p)
 
+-- and of its image what is written: it is written whole
+abbrev pub whole : List ℕ → List ℕ
+whole image = image
+
 -- the contract of every writer: what it answers, and what the output holds afterwards
 pub record Writes (w : Writing) (before after : List ℕ) (r : WriteAnswer) : Type 0 where
   pub answer : r ≡ write-answer-of (written w before)

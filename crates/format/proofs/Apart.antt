@@ -25,7 +25,7 @@ use Rattle.format.proofs.Messages.{at-took, rest-is}
 use Rattle.format.proofs.Drafts.{in-front, around}
 
 -- a part that was taken stands there
-there : (m : List ℕ) (s : ℕ) (b l : List ℕ) (t : ℕ) → drop s m ≡ b ++ l → t ≡ s + length b → bytes-at m s (t - s) ≡ b
+pub there : (m : List ℕ) (s : ℕ) (b l : List ℕ) (t : ℕ) → drop s m ≡ b ++ l → t ≡ s + length b → bytes-at m s (t - s) ≡ b
 there m s b l t e h = ap (take (t - s)) e ∙ take-at b l (t - s) (omega arith)
 
 -- the values of its four parts, one behind the other

@@ -193,6 +193,13 @@ abbrev pub end-at : Bool → ℕ → End → Closing
 end-at v1 s e =
     record { contentType = e .contentType; headerIvLength = e .headerIvLength; frameLength = e .frameLength; suiteData = part-at (cond v1 0 (s + 5)) (e .suiteData) }
 
+-- how long it is
+pub end-long : (v1 : Bool) (content iv frame : ℕ) (suiteData : List ℕ) → length suiteData ≡ cond v1 0 commit-key-length
+    → length ((content ∷ []) ++ write-closing-of v1 iv frame suiteData) ≡ cond v1 10 37
+unfolding write-closing-of write-uint32
+end-long true content iv frame suiteData e = omega arith
+end-long false content iv frame suiteData e = omega arith
+
 pub no-bytes : (xs : List ℕ) → length xs ≡ 0 → xs ≡ []
 no-bytes [] e = refl
 no-bytes (x ∷ xs) e = absurd (omega arith)

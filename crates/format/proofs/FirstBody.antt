@@ -15,11 +15,13 @@ use Rattle.format.specs.Fields.{EncryptedDataKey, PairAt, EncryptedDataK
 use Rattle.format.specs.Context.{Mode, tolerant, seen, look-up, find-value}
 use Rattle.format.specs.OnlyAuthenticated.{only-authenticated, fitting, write-only-authenticated}
 use Rattle.format.specs.Mending.{without-tables, read-draft, dropped-image, drop-encrypted-data-keys, added-image, add-encrypted-data-key}
+use Rattle.format.specs.Reissuing.{Reissue, reissued-image, reissued-header-body, reissue-header-body}
 use Rattle.format.specs.Policies.{Policy, lets-read}
-use Rattle.format.specs.Body.{Which, either, Lead, read-lead-of, read-lead, Opening, after-lead, read-opening, Closing, read-closing-of, read-closing, whole, Request, after-keys, after-context, after-opening, read-body}
+use Rattle.format.specs.Body.{Which, either, v1-only, Lead, read-lead-of, read-lead, Opening, after-lead, read-opening, Closing, read-closing-of, read-closing, whole, Request, after-keys, after-context, after-opening, read-body}
 use Rattle.format.specs.Auth.{HeaderAuth, zeros, read-header-auth-tag-of, read-header-auth-tag}
 use Rattle.format.specs.Places.{number8, number16, number32, part-of, entry-end, section-pairs, section-keys, section-keys-end, opening-here, closing-here, closing-end, body-here, body-end, value-of, value-here, auth-of-here, auth-here, auth-end}
-use Rattle.format.specs.First.{Line, lacks, when, unless, NoneApplies, FirstApplies, operation-list, lead-list-of, lead-list, opening-list, closing-list-of, closing-list, frame-length-here, body-list, auth-list, find-list, only-authenticated-list, drop-list, add-list, FirstRefusal, FirstRefusals}
+use Rattle.format.specs.First.{Line, lacks, when, unless, NoneApplies, FirstApplies, operation-list, lead-list-of, lead-list, opening-list, closing-list-of, closing-list, frame-length-here, body-list, auth-list, find-list, only-authenticated-list, FirstRefusal}
+use Rattle.format.specs.FirstRefusals.{drop-list, add-list, reissued-list, reissue-list, FirstRefusals}
 use Rattle.format.specs.Pinned.{line-number}
 use Rattle.format.proofs.Lines.{first-line, one-none, behind-list, none-applies, applies-none, first-applies, applies-first, Goes, goes-as, return-goes, bind-goes, test-goes, read-goes}
 use Rattle.format.proofs.Messages.{refused-is-no-accepted}
@@ -146,6 +148,14 @@ add-goes : (k : EncryptedDataKey) (room : ℕ) → Goes (add-encrypted-data-key 
 unfolding read-draft add-encrypted-data-key fitting add-list
 add-goes k room = bind-goes (body-goes (without-tables either)) (λ b. test-goes _ _ (test-goes _ _ (test-goes _ _ (return-goes _))))
 
+reissued-goes : (a : Reissue) → Goes (reissued-header-body a) (reissued-list a) (λ m s. reissued-image a (body-here m s)) body-end
+unfolding reissued-header-body reissued-list
+reissued-goes a = bind-goes (body-goes (without-tables v1-only)) (λ b. test-goes _ _ (test-goes _ _ (test-goes _ _ (test-goes _ _ (test-goes _ _ (return-goes _))))))
+
+reissue-goes : (a : Reissue) (room : ℕ) → Goes (reissue-header-body a room) (reissue-list a room) (λ m s. reissued-image a (body-here m s)) body-end
+unfolding reissue-header-body fitting reissue-list
+reissue-goes a room = bind-goes (reissued-goes a) (λ image. test-goes _ _ (return-goes image))
+
 -- find: the key has to be seen among the pairs
 look-goes : (k : List ℕ) (ps : List PairAt) → Goes (look-up k ps) (λ m s. unless 29 (seen k (map pair-of ps)) ∷ []) (λ m s. value-of k ps) (λ m s. s)
 unfolding look-up seen value-of test _>>_ return
@@ -234,6 +244,8 @@ first-refusals =
       of-only-authenticated = λ text required room. first-refusal (only-authenticated-goes text required room);
       of-drop = λ id. first-refusal (drop-goes id);
       of-add = λ k room. first-refusal (add-goes k room);
+      of-reissued = λ a. first-refusal (reissued-goes a);
+      of-reissue = λ a room. first-refusal (reissue-goes a room);
       of-keys = λ max room. first-refusal (keys-into-goes max room);
       of-body = λ q. first-refusal (body-goes q);
       of-auth = λ suite. first-refusal (auth-goes suite);

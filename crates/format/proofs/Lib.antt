@@ -64,6 +64,9 @@ pub mod Mending
 pub mod KeysDropped
 pub mod KeyAdded
 pub mod Mended
+pub mod ReissueOrder
+pub mod Reissued
+pub mod TakenOver
 pub mod FramesWritten
 pub mod Pinned
 pub mod KeyOrder

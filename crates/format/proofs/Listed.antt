@@ -14,11 +14,12 @@ use Rattle.format.specs.Fields.{EncryptedDataKey, PairAt, EncryptedDataK
 use Rattle.format.specs.Context.{Mode, tolerant, strict, read-text, read-aad-pair, read-next-aad-pair, read-aad-by, read-aad, read-aad-of, read-aad-section, ContextAt, with-mark, read-aad-section-into, look-up, find-value}
 use Rattle.format.specs.Keys.{Max, no-max, read-encrypted-data-key, read-encrypted-data-keys-of, read-encrypted-data-keys-section, read-encrypted-data-keys-section-into}
 use Rattle.format.specs.Policies.{lets-read}
-use Rattle.format.specs.Body.{Which, either, Opening, read-opening, Request, after-keys, after-context, after-opening, read-body}
+use Rattle.format.specs.Body.{Which, either, v1-only, v2-only, Opening, read-opening, Request, after-keys, after-context, after-opening, read-body}
 use Rattle.format.specs.Auth.{read-header-auth-tag-of, read-header-auth-tag}
 use Rattle.format.specs.OnlyAuthenticated.{fitting, write-only-authenticated}
 use Rattle.format.specs.Mending.{without-tables, read-draft, drop-encrypted-data-keys, add-encrypted-data-key}
-use Rattle.format.specs.Refusals.{section-refusals, context-refusals, find-refusals, only-authenticated-refusals, lead-refusals, forbidden-refusals, opening-refusals, passing, reserved-refusals, frame-refusals, room-refusals, closing-refusals, numbers-behind, key-section-refusals, keys-refusals, body-refusals, draft-refusals, drop-refusals, add-refusals, auth-refusals, frames-refusals, Refusal, RefusesBy, Refusals}
+use Rattle.format.specs.Reissuing.{Reissue, reissued-header-body, reissue-header-body}
+use Rattle.format.specs.Refusals.{section-refusals, context-refusals, find-refusals, only-authenticated-refusals, lead-refusals, forbidden-refusals, opening-refusals, passing, reserved-refusals, frame-refusals, room-refusals, closing-refusals, numbers-behind, key-section-refusals, keys-refusals, body-refusals, draft-refusals, drop-refusals, add-refusals, reissued-refusals, reissue-refusals, auth-refusals, frames-refusals, Refusal, RefusesBy, Refusals}
 use Rattle.format.proofs.Members.{has, has-neither, no-member}
 use Rattle.format.proofs.ListedLaws.{Fine, Listed, listed-as, bind-listed, then-listed, return-listed, sure-listed, test-listed, held-refusals, held-listed, read-listed, uint16-listed, repeat-listed, enclosed-listed, given-listed, marked-listed}
 use Rattle.format.proofs.ListedEnds.{Opened, opening-listed, opening-gives, closing-listed, tables-listed, frames-listed, Without, opening-without, closing-without}
@@ -142,21 +143,37 @@ draft-keys-listed : Listed (38 ∷ 16 ∷ []) (read-encrypted-data-keys-section 
 unfolding read-encrypted-data-keys-section read-encrypted-data-keys-of
 draft-keys-listed = bind-listed uint16-listed (λ count. then-listed (test-listed 38 _) (then-listed (sure-listed 15 refl) (repeat-listed count (λ acc. key-listed) [])))
 
-draft-listed : Listed draft-refusals read-draft
-unfolding read-draft read-body after-opening after-context opening-refusals lead-refusals forbidden-refusals passing numbers-behind section-refusals closing-refusals reserved-refusals frame-refusals room-refusals draft-refusals
-draft-listed = listed-as draft-refusals refl (body-listed-by (without-tables either) (section-listed tolerant) draft-keys-listed)
+draft-listed : (which : Which) → Listed (draft-refusals which) (read-body (without-tables which))
+unfolding read-body after-opening after-context opening-refusals lead-refusals forbidden-refusals passing numbers-behind section-refusals closing-refusals reserved-refusals frame-refusals room-refusals draft-refusals
+draft-listed either = listed-as (draft-refusals either) refl (body-listed-by (without-tables either) (section-listed tolerant) draft-keys-listed)
+draft-listed v1-only = listed-as (draft-refusals v1-only) refl (body-listed-by (without-tables v1-only) (section-listed tolerant) draft-keys-listed)
+draft-listed v2-only = listed-as (draft-refusals v2-only) refl (body-listed-by (without-tables v2-only) (section-listed tolerant) draft-keys-listed)
 
-drop-listed : (id : List ℕ) → Listed (draft-refusals ++ (40 ∷ [])) (drop-encrypted-data-keys id)
-unfolding drop-encrypted-data-keys
-drop-listed id = bind-listed draft-listed (λ b. then-listed (test-listed 40 _) (return-listed _))
+drop-listed : (id : List ℕ) → Listed (draft-refusals either ++ (40 ∷ [])) (drop-encrypted-data-keys id)
+unfolding read-draft drop-encrypted-data-keys
+drop-listed id = bind-listed (draft-listed either) (λ b. then-listed (test-listed 40 _) (return-listed _))
 
-add-listed : (k : EncryptedDataKey) (room : ℕ) → Listed (draft-refusals ++ (16 ∷ 27 ∷ 28 ∷ [])) (add-encrypted-data-key k room)
-unfolding add-encrypted-data-key fitting
-add-listed k room = bind-listed draft-listed (λ b. then-listed (test-listed 16 _) (then-listed (test-listed 27 _) (then-listed (test-listed 28 _) (return-listed _))))
+add-listed : (k : EncryptedDataKey) (room : ℕ) → Listed (draft-refusals either ++ (16 ∷ 27 ∷ 28 ∷ [])) (add-encrypted-data-key k room)
+unfolding read-draft add-encrypted-data-key fitting
+add-listed k room = bind-listed (draft-listed either) (λ b. then-listed (test-listed 16 _) (then-listed (test-listed 27 _) (then-listed (test-listed 28 _) (return-listed _))))
 
-draft-without-2 : Without 2 draft-refusals
-unfolding lead-refusals section-refusals draft-refusals
-draft-without-2 = refl
+reissued-listed : (a : Reissue) → Listed (draft-refusals v1-only ++ (20 ∷ 6 ∷ 7 ∷ 24 ∷ 25 ∷ [])) (reissued-header-body a)
+unfolding reissued-header-body
+reissued-listed a =
+    bind-listed (draft-listed v1-only) (λ b. then-listed (test-listed 20 _) (then-listed (test-listed 6 _) (then-listed (test-listed 7 _) (then-listed (test-listed 24 _) (then-listed (test-listed 25 _) (return-listed _))))))
+
+reissue-listed : (a : Reissue) (room : ℕ) → Listed ((draft-refusals v1-only ++ (20 ∷ 6 ∷ 7 ∷ 24 ∷ 25 ∷ [])) ++ (28 ∷ [])) (reissue-header-body a room)
+unfolding reissue-header-body fitting
+reissue-listed a room = bind-listed (reissued-listed a) (λ image. then-listed (test-listed 28 _) (return-listed _))
+
+draft-without-2 : (which : Which) → Without 2 (draft-refusals which)
+unfolding lead-refusals section-refusals reserved-refusals frame-refusals draft-refusals
+draft-without-2 either = refl
+draft-without-2 v1-only = refl
+draft-without-2 v2-only = refl
+
+reissued-without-2 : Without 2 (draft-refusals v1-only ++ (20 ∷ 6 ∷ 7 ∷ 24 ∷ 25 ∷ []))
+reissued-without-2 = has-neither (draft-refusals v1-only) (20 ∷ 6 ∷ 7 ∷ 24 ∷ 25 ∷ []) 2 (draft-without-2 v1-only) refl
 
 -- an authentication record
 auth-of-listed : (v1 : Bool) → Listed [] (read-header-auth-tag-of v1)
@@ -231,14 +248,16 @@ section-without tolerant = (refl, refl, refl)
 section-without strict = (refl, refl, refl)
 
 pub refusals : Refusals
-unfolding context-refusals find-refusals only-authenticated-refusals key-section-refusals keys-refusals body-refusals drop-refusals add-refusals auth-refusals frames-refusals
+unfolding context-refusals find-refusals only-authenticated-refusals key-section-refusals keys-refusals body-refusals drop-refusals add-refusals reissued-refusals reissue-refusals auth-refusals frames-refusals
 refusals =
     record {
       of-context = λ mode room. refuses _ _ (no-member _ 2 (has-neither (section-refusals mode) (22 ∷ []) 2 (section-without mode .0) refl)) (section-into-listed mode room);
       of-find = λ k. refuses _ _ (no-member _ 2 (has-neither (section-refusals tolerant) (29 ∷ []) 2 (section-without tolerant .0) refl)) (find-listed k);
       of-only-authenticated = λ text required room. refuses _ _ (no-member _ 2 (has-neither (section-refusals tolerant) (31 ∷ 28 ∷ []) 2 (section-without tolerant .0) refl)) (only-authenticated-listed text required room);
-      of-drop = λ id. refuses _ _ (no-member _ 2 (has-neither draft-refusals (40 ∷ []) 2 draft-without-2 refl)) (drop-listed id);
-      of-add = λ k room. refuses _ _ (no-member _ 2 (has-neither draft-refusals (16 ∷ 27 ∷ 28 ∷ []) 2 draft-without-2 refl)) (add-listed k room);
+      of-drop = λ id. refuses _ _ (no-member _ 2 (has-neither (draft-refusals either) (40 ∷ []) 2 (draft-without-2 either) refl)) (drop-listed id);
+      of-add = λ k room. refuses _ _ (no-member _ 2 (has-neither (draft-refusals either) (16 ∷ 27 ∷ 28 ∷ []) 2 (draft-without-2 either) refl)) (add-listed k room);
+      of-reissued = λ a. refuses _ _ (no-member _ 2 reissued-without-2) (reissued-listed a);
+      of-reissue = λ a room. refuses _ _ (no-member _ 2 (has-neither (draft-refusals v1-only ++ (20 ∷ 6 ∷ 7 ∷ 24 ∷ 25 ∷ [])) (28 ∷ []) 2 reissued-without-2 refl)) (reissue-listed a room);
       of-keys = λ max room. refuses _ _ (no-member _ 2 refl) (keys-into-listed max room);
       of-body = λ q. refuses _ _ (no-member _ 2 (body-without-2 q (section-refusals (q .mode)) key-section-refusals (section-without (q .mode) .0) refl)) (body-listed q);
       of-auth = λ suite. refuses _ _ (no-member _ 2 refl) (auth-listed suite);

@@ -11,6 +11,7 @@ use Rattle.format.specs.Shared.{read-message-format-version, read-esdk-s
 use Rattle.format.specs.Fields.{PairAt}
 use Rattle.format.specs.Context.{Mode, read-text, read-aad-pair, read-next-aad-pair, read-aad-by, read-aad, read-aad-of, read-aad-section, ContextAt, mark, with-mark, read-aad-section-into, look-up, find-value}
 use Rattle.format.specs.OnlyAuthenticated.{fitting, write-only-authenticated}
+use Rattle.format.specs.Reissuing.{Reissue, reissued-header-body, reissue-header-body}
 use Rattle.format.specs.Keys.{Max, read-encrypted-data-key, read-encrypted-data-keys-of, read-encrypted-data-keys-section, read-encrypted-data-keys-section-into}
 use Rattle.format.specs.Policies.{Policy}
 use Rattle.format.specs.Body.{Which, read-lead-of, read-lead, after-lead, read-opening, read-closing-of, read-closing, Opening, Request, after-keys, after-context, after-opening, read-body}
@@ -131,6 +132,14 @@ after-context-steady q o x = search (steady, keys-steady, closing-steady) depth 
 pub body-steady : (q : Request) → Steady (read-body q)
 unfolding read-body after-opening
 body-steady q = search (steady, opening-steady, mark-steady, section-steady, after-context-steady) depth 20
+
+reissued-steady : (a : Reissue) → Steady (reissued-header-body a)
+unfolding reissued-header-body
+reissued-steady a = search (steady, body-steady) depth 20
+
+pub reissue-steady : (a : Reissue) (room : ℕ) → Steady (reissue-header-body a room)
+unfolding reissue-header-body fitting
+reissue-steady a room = search (steady, reissued-steady) depth 20
 
 -- an authentication record
 auth-of-steady : (v1 : Bool) → Steady (read-header-auth-tag-of v1)

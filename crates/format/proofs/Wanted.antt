@@ -13,9 +13,10 @@ use Rattle.format.specs.Fields.{EncryptedDataKey, PairAt}
 use Rattle.format.specs.Context.{Mode, tolerant, read-text, read-aad-pair, read-next-aad-pair, read-aad-by, read-aad, read-aad-of, read-aad-section, ContextAt, mark, with-mark, read-aad-section-into, look-up, find-value}
 use Rattle.format.specs.OnlyAuthenticated.{fitting, write-only-authenticated}
 use Rattle.format.specs.Mending.{without-tables, read-draft, drop-encrypted-data-keys, add-encrypted-data-key}
+use Rattle.format.specs.Reissuing.{Reissue, reissued-header-body, reissue-header-body}
 use Rattle.format.specs.Keys.{Max, read-encrypted-data-key, read-encrypted-data-keys-of, read-encrypted-data-keys-section, read-encrypted-data-keys-section-into}
 use Rattle.format.specs.Policies.{Policy}
-use Rattle.format.specs.Body.{Which, either, read-lead-of, read-lead, after-lead, read-opening, read-closing-of, read-closing, Opening, Request, after-keys, after-context, after-opening, read-body}
+use Rattle.format.specs.Body.{Which, either, v1-only, read-lead-of, read-lead, after-lead, read-opening, read-closing-of, read-closing, Opening, Request, after-keys, after-context, after-opening, read-body}
 use Rattle.format.specs.Auth.{read-header-auth-tag-of, read-header-auth-tag}
 use Rattle.format.specs.Refusals.{WantsWithin, Nearness}
 use Rattle.format.proofs.Frames.{frames-into-wants}
@@ -151,6 +152,15 @@ add-wants : (k : EncryptedDataKey) (room : ℕ) → Header Any (add-encrypted-da
 unfolding read-draft add-encrypted-data-key fitting
 add-wants k room = bind-wants (body-wants (without-tables either)) (λ b g. then-wants (test-wants 16 _) (then-wants (test-wants 27 _) (then-wants (test-wants 28 _) (return-wants _))))
 
+reissued-wants : (a : Reissue) → Header Any (reissued-header-body a)
+unfolding reissued-header-body
+reissued-wants a =
+    bind-wants (body-wants (without-tables v1-only)) (λ b g. then-wants (test-wants 20 _) (then-wants (test-wants 6 _) (then-wants (test-wants 7 _) (then-wants (test-wants 24 _) (then-wants (test-wants 25 _) (return-wants _))))))
+
+reissue-wants : (a : Reissue) (room : ℕ) → Header Any (reissue-header-body a room)
+unfolding reissue-header-body fitting
+reissue-wants a room = bind-wants (reissued-wants a) (λ image g. then-wants (test-wants 28 _) (return-wants _))
+
 -- an authentication record
 auth-of-wants : (v1 : Bool) → Header Any (read-header-auth-tag-of v1)
 unfolding read-header-auth-tag-of
@@ -190,6 +200,7 @@ nearness =
       of-only-authenticated = λ text required room. wants-within (omega arith) _ (only-authenticated-wants text required room);
       of-drop = λ id. wants-within (omega arith) _ (drop-wants id);
       of-add = λ k room. wants-within (omega arith) _ (add-wants k room);
+      of-reissue = λ a room. wants-within (omega arith) _ (reissue-wants a room);
       of-keys = λ max room. wants-within (omega arith) _ (keys-into-wants max room);
       of-body = λ q. wants-within (omega arith) _ (body-wants q);
       of-auth = λ suite. wants-within (omega arith) _ (auth-wants suite);

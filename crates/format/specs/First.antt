@@ -11,16 +11,14 @@ use Rattle.format.specs.Read.{Reader, End, no-end, end-at, Item, followe
 use Rattle.format.specs.Serialize.{every}
 use Rattle.format.specs.Utf8.{valid-utf8-seq}
 use Rattle.format.specs.Shared.{by, one-or-two, known, of-version, suite-version, frame-fits}
-use Rattle.format.specs.Fields.{EncryptedDataKey, PairAt, pair-of}
-use Rattle.format.specs.Context.{Mode, tolerant, is-strict, seen, read-aad-section-into, find-value}
-use Rattle.format.specs.Keys.{Max, within, read-encrypted-data-keys-section-into}
+use Rattle.format.specs.Fields.{PairAt, pair-of}
+use Rattle.format.specs.Context.{Mode, tolerant, is-strict, seen}
+use Rattle.format.specs.Keys.{Max, within}
 use Rattle.format.specs.Policies.{Policy, lets-read}
-use Rattle.format.specs.Body.{Which, either, asked, Request, read-body}
-use Rattle.format.specs.Auth.{read-header-auth-tag}
-use Rattle.format.specs.Frames.{FrameAt, next-number, read-frames-into}
-use Rattle.format.specs.OnlyAuthenticated.{only-authenticated, in-twos, write-only-authenticated}
-use Rattle.format.specs.Mending.{without-tables, some-remain, dropped-image, drop-encrypted-data-keys, addable, added-image, add-encrypted-data-key}
-use Rattle.format.specs.Places.{number8, number16, number32, entry-here, entry-end, pair-here, pair-end, pairs-end, key-here, key-end, section-pairs, section-keys, section-keys-end, body-here, body-end, value-here, auth-here, auth-end, run-bound, final-here, frame-here, frame-end, frames-here, frames-end}
+use Rattle.format.specs.Body.{Which, asked, Request}
+use Rattle.format.specs.Frames.{FrameAt, next-number}
+use Rattle.format.specs.OnlyAuthenticated.{only-authenticated, in-twos}
+use Rattle.format.specs.Places.{number8, number16, number32, entry-here, entry-end, pair-here, pair-end, pairs-end, key-here, key-end, section-pairs, section-keys, section-keys-end, run-bound, final-here, frame-here, frame-end, frames-here}
 
 -- a line of a list: a refusal's number and position, and whether it applies
 pub record Line : Type 0 where
@@ -212,19 +210,6 @@ only-authenticated-list text required room m s =
     ∷ unless 28 (leb (length (only-authenticated text required (section-pairs m s))) room)
     ∷ [])
 
--- A draft's keys taken out: the draft's lines, then 40
-unfoldable pub drop-list : List ℕ → List ℕ → ℕ → List Line
-drop-list id m s = body-list (without-tables either) m s ++ (unless 40 (some-remain id (body-here m s)) ∷ [])
-
--- And a key added: the draft's, then 16, 27 and 28
-unfoldable pub add-list : EncryptedDataKey → ℕ → List ℕ → ℕ → List Line
-add-list k room m s =
-    body-list (without-tables either) m s
-    ++ (unless 16 (valid-utf8-seq (k .keyProviderId))
-    ∷ unless 27 (addable k (length (body-here m s .keys)))
-    ∷ unless 28 (leb (length (added-image k (body-here m s))) room)
-    ∷ [])
-
 -- Items of a run, n at most. Behind the last item there is no line; a run that has not ended after n of them lacks a byte, which no run
 -- of a message does with the bound that it has below.
 abbrev pub lines-behind : {A : Type 0} → Item A → (A → List Line) → List Line
@@ -280,15 +265,3 @@ pub record FirstRefusal {A : Type 0} (r : Reader A) (list : List ℕ → ℕ →
   pub refuses : (k p : ℕ) → operation r m s ≡ refused k p → FirstApplies (operation-list list m s) k p
   pub applies : (k p : ℕ) → FirstApplies (operation-list list m s) k p → operation r m s ≡ refused k p
   pub accepts : NoneApplies (operation-list list m s) → operation r m s ≡ accepted (here m s) (end m s)
-
-pub record FirstRefusals : Type 0 where
-  pub of-context : (mode : Mode) (room : ℕ) (m : List ℕ) (s : ℕ) → FirstRefusal (read-aad-section-into mode room) (context-into-list mode room) section-pairs entry-end m s
-  pub of-find : (k m : List ℕ) (s : ℕ) → FirstRefusal (find-value k) (find-list k) (value-here k) entry-end m s
-  pub of-only-authenticated : (text required : List ℕ) (room : ℕ) (m : List ℕ) (s : ℕ)
-      → FirstRefusal (write-only-authenticated text required room) (only-authenticated-list text required room) (λ m s. only-authenticated text required (section-pairs m s)) entry-end m s
-  pub of-drop : (id m : List ℕ) (s : ℕ) → FirstRefusal (drop-encrypted-data-keys id) (drop-list id) (λ m s. dropped-image id (body-here m s)) body-end m s
-  pub of-add : (k : EncryptedDataKey) (room : ℕ) (m : List ℕ) (s : ℕ) → FirstRefusal (add-encrypted-data-key k room) (add-list k room) (λ m s. added-image k (body-here m s)) body-end m s
-  pub of-keys : (max : Max) (room : ℕ) (m : List ℕ) (s : ℕ) → FirstRefusal (read-encrypted-data-keys-section-into max room) (keys-into-list max room) section-keys section-keys-end m s
-  pub of-body : (q : Request) (m : List ℕ) (s : ℕ) → FirstRefusal (read-body q) (body-list q) body-here body-end m s
-  pub of-auth : (suite : ℕ) (m : List ℕ) (s : ℕ) → FirstRefusal (read-header-auth-tag suite) (auth-list suite) (auth-here suite) (auth-end suite) m s
-  pub of-frames : (frame room : ℕ) (m : List ℕ) (s : ℕ) → FirstRefusal (read-frames-into frame room) (frames-into-list frame room) (frames-here frame) (frames-end frame) m s

@@ -14,13 +14,16 @@ pub mod Lent
 pub mod Sorted
 pub mod OnlyAuthenticated
 pub mod Mending
+pub mod Reissuing
 pub mod Source
 pub mod Places
 pub mod First
+pub mod FirstRefusals
 pub mod Refusals
 pub mod Demand3
 pub mod WrittenBack
 pub mod Mended
+pub mod Reissued
 pub mod Sections
 pub mod FrameLaws
 pub mod Characters

@@ -12,11 +12,12 @@ use Rattle.format.specs.Fields.{EncryptedDataKey}
 use Rattle.format.specs.Context.{Mode, tolerant, strict, read-aad-section-into, find-value}
 use Rattle.format.specs.Keys.{Max, no-max, at-most, read-encrypted-data-keys-section-into}
 use Rattle.format.specs.Policies.{Policy, lets-read}
-use Rattle.format.specs.Body.{Which, either, v1-only, v2-only, Request, read-body}
+use Rattle.format.specs.Body.{Which, either, v1-only, v2-only, tests-frames, Request, read-body}
 use Rattle.format.specs.Auth.{read-header-auth-tag}
 use Rattle.format.specs.Frames.{read-frames-into}
 use Rattle.format.specs.OnlyAuthenticated.{write-only-authenticated}
 use Rattle.format.specs.Mending.{drop-encrypted-data-keys, add-encrypted-data-key}
+use Rattle.format.specs.Reissuing.{Reissue, reissued-header-body, reissue-header-body}
 
 -- only the strict mode answers 21
 unfoldable pub section-refusals : Mode → List ℕ
@@ -90,15 +91,22 @@ unfoldable pub body-refusals : Request → List ℕ
 body-refusals q =
     1 ∷ 2 ∷ (opening-refusals (q .which) (q .policy) ++ numbers-behind (passing (lets-read (q .policy) 1) (q .which)) (section-refusals (q .mode)) key-section-refusals q)
 
--- of a draft, which is read in either version, tolerantly, without tables: neither 4 nor 15, which no maximum answers, nor 21, 22 and 23
-unfoldable pub draft-refusals : List ℕ
-draft-refusals = lead-refusals either ++ (section-refusals tolerant ++ (38 ∷ 16 ∷ 17 ∷ 18 ∷ 19 ∷ 20 ∷ []))
+-- of a draft, which is read tolerantly, without tables: neither 15, which no maximum answers, nor 21, 22 and 23
+unfoldable pub draft-refusals : Which → List ℕ
+draft-refusals which = lead-refusals which ++ (section-refusals tolerant ++ (38 ∷ 16 ∷ 17 ∷ (reserved-refusals which ++ frame-refusals (tests-frames which))))
 
 unfoldable pub drop-refusals : List ℕ
-drop-refusals = 1 ∷ 2 ∷ (draft-refusals ++ (40 ∷ []))
+drop-refusals = 1 ∷ 2 ∷ (draft-refusals either ++ (40 ∷ []))
 
 unfoldable pub add-refusals : List ℕ
-add-refusals = 1 ∷ 2 ∷ (draft-refusals ++ (16 ∷ 27 ∷ 28 ∷ []))
+add-refusals = 1 ∷ 2 ∷ (draft-refusals either ++ (16 ∷ 27 ∷ 28 ∷ []))
+
+-- 4 for a version 2 draft; 6 and 7 of the draft's suite, and again of the one that is added
+unfoldable pub reissued-refusals : List ℕ
+reissued-refusals = 1 ∷ 2 ∷ (draft-refusals v1-only ++ (20 ∷ 6 ∷ 7 ∷ 24 ∷ 25 ∷ []))
+
+unfoldable pub reissue-refusals : List ℕ
+reissue-refusals = reissued-refusals ++ (28 ∷ [])
 
 unfoldable pub auth-refusals : List ℕ
 auth-refusals = 1 ∷ 2 ∷ 6 ∷ []
@@ -123,6 +131,8 @@ pub record Refusals : Type 0 where
   pub of-only-authenticated : (text required : List ℕ) (room : ℕ) → RefusesBy only-authenticated-refusals (write-only-authenticated text required room)
   pub of-drop : (id : List ℕ) → RefusesBy drop-refusals (drop-encrypted-data-keys id)
   pub of-add : (k : EncryptedDataKey) (room : ℕ) → RefusesBy add-refusals (add-encrypted-data-key k room)
+  pub of-reissued : (a : Reissue) → RefusesBy reissued-refusals (reissued-header-body a)
+  pub of-reissue : (a : Reissue) (room : ℕ) → RefusesBy reissue-refusals (reissue-header-body a room)
   pub of-keys : (max : Max) (room : ℕ) → RefusesBy keys-refusals (read-encrypted-data-keys-section-into max room)
   pub of-body : (q : Request) → RefusesBy (body-refusals q) (read-body q)
   pub of-auth : (suite : ℕ) → RefusesBy auth-refusals (read-header-auth-tag suite)
@@ -142,6 +152,7 @@ pub record Nearness : Type 0 where
   pub of-only-authenticated : (text required : List ℕ) (room : ℕ) → WantsNear (write-only-authenticated text required room)
   pub of-drop : (id : List ℕ) → WantsNear (drop-encrypted-data-keys id)
   pub of-add : (k : EncryptedDataKey) (room : ℕ) → WantsNear (add-encrypted-data-key k room)
+  pub of-reissue : (a : Reissue) (room : ℕ) → WantsNear (reissue-header-body a room)
   pub of-keys : (max : Max) (room : ℕ) → WantsNear (read-encrypted-data-keys-section-into max room)
   pub of-body : (q : Request) → WantsNear (read-body q)
   pub of-auth : (suite : ℕ) → WantsNear (read-header-auth-tag suite)

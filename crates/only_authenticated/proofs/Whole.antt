@@ -34,8 +34,8 @@ use Rattle.context.proofs.Known.{forward, section-tidy, section-known}
 use Rattle.context.proofs.Whole.{Had, had}
 use Rattle.checks.specs.declared.WriteAnswer.{WriteAnswer}
 use Rattle.checks.specs.declared.WriteAnswer.the-variants as write
-use Rattle.checks.specs.Answers.{written-as}
-use Rattle.only_authenticated.specs.Codes.{whole, Puts, Claims, Enough}
+use Rattle.checks.specs.Answers.{written-as, whole}
+use Rattle.only_authenticated.specs.Codes.{Puts, Claims, Enough}
 use Rattle.only_authenticated.specs.Marks.{is-marked, marked, Unmarked, MarksAll}
 use Rattle.only_authenticated.proofs.MarkLaws.{marked-selects}
 

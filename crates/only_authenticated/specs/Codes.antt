@@ -14,10 +14,6 @@ use Rattle.wire.specs.Codes.{because}
 use Rattle.checks.specs.declared.WriteAnswer.{WriteAnswer}
 use Rattle.checks.specs.declared.WriteAnswer.the-variants.{Written, Refused}
 
--- what is written is the image, whole
-abbrev pub whole : List ℕ → List ℕ
-whole image = image
-
 -- an image, written where it fits, and else 28
 pub record Puts (image before after : List ℕ) (r : WriteAnswer) : Type 0 where
   pub answer : r ≡ cond (leb (length image) (length before)) (Written (length image)) (Refused (because 28 0))

@@ -23,10 +23,10 @@ ghost use Rattle.format.specs.Context.{write-empty-ec-or-write-aad};
 ghost use Rattle.format.specs.Lent.{parts-in, places, in-text};
 ghost use Rattle.format.specs.OnlyAuthenticated.{context-to-only-authenticate, write-only-authenticated as only-authenticated};
 ghost use Rattle.entries.specs.Codes.{Reads};
-ghost use Rattle.checks.specs.Answers.{written-as};
+ghost use Rattle.checks.specs.Answers.{written-as, whole};
 ghost use Rattle.pair_index.specs.Index.{first-pairs};
 ghost use Rattle.context.specs.Stepping.{HasPairs, Lendable};
-ghost use Rattle.only_authenticated.specs.Codes.{whole, Puts, Claims, Enough};
+ghost use Rattle.only_authenticated.specs.Codes.{Puts, Claims, Enough};
 ghost use Rattle.only_authenticated.specs.Marks.{Unmarked};
 
 // How many pairs are marked, and how many bytes they take.

@@ -27,9 +27,8 @@ use Rattle.format.proofs.Mended.{mended-drafts}
 use Rattle.format.proofs.EitherOrder.{kept}
 use Rattle.format.proofs.Arrangement.{arrangement}
 use Rattle.wire.specs.Codes.{because}
-use Rattle.checks.specs.Answers.{written-as}
+use Rattle.checks.specs.Answers.{written-as, whole}
 use Rattle.checks.specs.declared.WriteAnswer.the-variants.{Written, Refused}
-use Rattle.only_authenticated.specs.Codes.{whole}
 use Rattle.promises.specs.OnlyAuthenticated.{Call, Meets}
 use Rattle.promises.specs.Arrangement.{Section, Wrote, front-bytes, entry-bytes, Lends, JoinedCalls, SameRequired, SameBytes, Of, TwoDrops, EitherOrder, AllOfOne, SomeOfBoth, ArrangementPromises}
 use Rattle.promises.proofs.Writer.{by-checks}

@@ -7,6 +7,7 @@ pub mod Policies
 pub mod Listed
 pub mod OnlyAuthenticated
 pub mod Mended
+pub mod Reissued
 pub mod Arrangement
 pub mod Frames
 pub mod FramesWritten

@@ -11,18 +11,17 @@ use Rattle.format.specs.OnlyAuthenticated.{write-only-authenticated}
 use Rattle.format.specs.Selection.{OnlyAuthenticatedLaw}
 use Rattle.format.proofs.Selection.{selection}
 use Rattle.wire.specs.declared.Refusal.{Refusal}
-use Rattle.checks.specs.Answers.{written-as}
+use Rattle.checks.specs.Answers.{written-as, whole}
 use Rattle.checks.specs.declared.WriteAnswer.{WriteAnswer}
 use Rattle.checks.specs.declared.WriteAnswer.the-variants.{Written, Refused}
-use Rattle.only_authenticated.specs.Codes.{whole}
 use Rattle.promises.specs.OnlyAuthenticated.{Call, Meets, Promise, OnlyAuthenticatedPromises}
 
 -- what a code's answer says of the definition's
-image-of : (o : Answer (List ℕ)) (n : ℕ) → written-as o ≡ Written n → (image : List ℕ) × (t : ℕ) × (o ≡ accepted image t) × (n ≡ length image)
+pub image-of : (o : Answer (List ℕ)) (n : ℕ) → written-as o ≡ Written n → (image : List ℕ) × (t : ℕ) × (o ≡ accepted image t) × (n ≡ length image)
 image-of (accepted image t) n e = (image, t, refl, cc)
 image-of (refused k p) n e = let z : _≡_ {A = ℕ} 0 1 = cc in absurd (omega arith)
 
-kept : (o : Answer (List ℕ)) (q : Refusal) → written-as o ≡ Refused q → (before : List ℕ) → table-after whole o before ≡ before
+pub kept : (o : Answer (List ℕ)) (q : Refusal) → written-as o ≡ Refused q → (before : List ℕ) → table-after whole o before ≡ before
 kept (accepted image t) q e before = let z : _≡_ {A = ℕ} 0 1 = cc in absurd (omega arith)
 kept (refused k p) q e before = refl
 

@@ -30,9 +30,8 @@ use Rattle.frames.specs.Codes.{frames-of}
 use Rattle.frames.specs.declared.FramesAnswer.the-variants as frames
 use Rattle.auth.specs.Codes.{auth-of}
 use Rattle.auth.specs.declared.AuthRead.{AuthRead}
-use Rattle.checks.specs.Answers.{written-as}
+use Rattle.checks.specs.Answers.{written-as, whole}
 use Rattle.checks.specs.declared.WriteAnswer.the-variants as write
-use Rattle.only_authenticated.specs.Codes.{whole}
 use Rattle.body_reader.specs.Codes.{body-of}
 use Rattle.body_reader.specs.declared.HeaderBody.{HeaderBody}
 use Rattle.body_reader.specs.declared.HeaderBodyAnswer.the-variants as body
@@ -134,6 +133,7 @@ trusted-promises =
       of-frames = λ frame m s n fits h before. with-table frames-of frame-numbers frames.Refused back-frames (λ p. refl) (trust .of-frames frame (length before) m s fits .whole n h) before;
       of-only-authenticated = λ text required m s n fits h before.
           with-table written-as whole write.Refused back-written (λ p. refl) (trust .of-only-authenticated text required (length before) m s fits .whole n h) before;
+      of-reissue = λ a m s n fits h before. with-table written-as whole write.Refused back-written (λ p. refl) (trust .of-reissue a (length before) m s fits .whole n h) before;
       of-find = λ k m s n fits h. carried found-of (λ o p e. back-found o (because 2 p) e) (trust .of-find k m s fits .whole n h);
       of-auth = λ suite m s n fits h. carried auth-of back-auth (trust .of-auth suite m s fits .whole n h);
       context-rounds = λ mode m s before n ps h.

@@ -13,8 +13,10 @@ use Rattle.format.specs.Frames.{read-frames-into}
 use Rattle.format.specs.Lent.{pair-numbers, key-numbers, frame-numbers}
 use Rattle.format.specs.OnlyAuthenticated.{only-authenticated, write-only-authenticated}
 use Rattle.format.specs.Mending.{dropped-image, drop-encrypted-data-keys, added-image, add-encrypted-data-key}
+use Rattle.format.specs.Reissuing.{Reissue, reissued-image, reissued-header-body, reissue-header-body}
 use Rattle.format.specs.Places.{entry-end, section-pairs, section-keys, section-keys-end, body-here, value-here, auth-here, auth-end, frames-here, frames-end}
-use Rattle.format.specs.First.{Line, NoneApplies, FirstApplies, operation-list, context-into-list, keys-into-list, find-list, only-authenticated-list, drop-list, add-list, auth-list, frames-into-list}
+use Rattle.format.specs.First.{Line, NoneApplies, FirstApplies, operation-list, context-into-list, keys-into-list, find-list, only-authenticated-list, auth-list, frames-into-list}
+use Rattle.format.specs.FirstRefusals.{drop-list, add-list, reissued-list, reissue-list}
 use Rattle.wire.specs.Codes.{because}
 use Rattle.wire.specs.declared.Refusal.{Refusal}
 use Rattle.entries.specs.Codes.{Reads}
@@ -31,10 +33,9 @@ use Rattle.frames.specs.declared.FramesAnswer.{FramesAnswer}
 use Rattle.frames.specs.declared.FramesAnswer.the-variants as frames
 use Rattle.auth.specs.Codes.{auth-of}
 use Rattle.auth.specs.declared.AuthRead.{AuthRead}
-use Rattle.checks.specs.Answers.{written-as}
+use Rattle.checks.specs.Answers.{written-as, whole}
 use Rattle.checks.specs.declared.WriteAnswer.{WriteAnswer}
 use Rattle.checks.specs.declared.WriteAnswer.the-variants as write
-use Rattle.only_authenticated.specs.Codes.{whole}
 use Rattle.drafts.specs.Codes.{Mends}
 
 -- an answer refuses just by the first line that applies, with its position, and is that of what stands there where none does
@@ -59,6 +60,10 @@ pub record ListedPromises : Type 0 where
       → ByFirst write.Refused (operation-list (drop-list id) before 0) (write.Written (length (dropped-image id (body-here before 0)))) r
   pub of-add : (k : EncryptedDataKey) (before after : List ℕ) (r : WriteAnswer) → Mends written-as (operation (add-encrypted-data-key k (length before)) before 0) before after r
       → ByFirst write.Refused (operation-list (add-list k (length before)) before 0) (write.Written (length (added-image k (body-here before 0)))) r
+  pub of-reissue : (a : Reissue) (m : List ℕ) (s : ℕ) (before after : List ℕ) (r : WriteAnswer) → Reads written-as whole (operation (reissue-header-body a (length before)) m s) before after r
+      → ByFirst write.Refused (operation-list (reissue-list a (length before)) m s) (write.Written (length (reissued-image a (body-here m s)))) r
+  pub of-reissued : (a : Reissue) (m : List ℕ) (s : ℕ) (r : WriteAnswer) → r ≡ written-as (operation (reissued-header-body a) m s)
+      → ByFirst write.Refused (operation-list (reissued-list a) m s) (write.Written (length (reissued-image a (body-here m s)))) r
   pub of-keys : (max : Max) (room : ℕ) (m : List ℕ) (s : ℕ) (before after : List ℕ) (r : KeysAnswer)
       → Reads keys-of key-numbers (operation (read-encrypted-data-keys-section-into max room) m s) before after r → ByFirst keys.Refused (operation-list (keys-into-list max room) m s) (keys-of (accepted (section-keys m s) (section-keys-end m s))) r
   pub of-auth : (suite : ℕ) (m : List ℕ) (s : ℕ) (r : AuthRead) → r ≡ auth-of (operation (read-header-auth-tag suite) m s) → AuthByFirst (operation-list (auth-list suite) m s) (auth-of (accepted (auth-here suite m s) (auth-end suite m s))) r

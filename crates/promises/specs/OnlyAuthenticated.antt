@@ -15,10 +15,9 @@ use Rattle.format.specs.Selection.{Selects}
 use Rattle.wire.specs.Codes.{because}
 use Rattle.wire.specs.declared.Refusal.{Refusal}
 use Rattle.entries.specs.Codes.{Reads}
-use Rattle.checks.specs.Answers.{written-as}
+use Rattle.checks.specs.Answers.{written-as, whole}
 use Rattle.checks.specs.declared.WriteAnswer.{WriteAnswer}
 use Rattle.checks.specs.declared.WriteAnswer.the-variants.{Written, Refused}
-use Rattle.only_authenticated.specs.Codes.{whole}
 
 -- a call: what is lent, the output before and after it, and its answer
 pub record Call : Type 0 where

@@ -15,6 +15,7 @@ use Rattle.format.specs.Auth.{read-header-auth-tag}
 use Rattle.format.specs.Frames.{read-frames-into}
 use Rattle.format.specs.Lent.{pair-numbers, key-numbers, frame-numbers}
 use Rattle.format.specs.OnlyAuthenticated.{write-only-authenticated}
+use Rattle.format.specs.Reissuing.{Reissue, reissue-header-body}
 use Rattle.format.specs.Places.{entry-end}
 use Rattle.format.specs.Trusted.{TwoRuns}
 use Rattle.format.specs.Fetched.{NoMoreThan}
@@ -34,10 +35,9 @@ use Rattle.frames.specs.declared.FramesAnswer.{FramesAnswer}
 use Rattle.frames.specs.declared.FramesAnswer.the-variants as frames
 use Rattle.auth.specs.Codes.{auth-of}
 use Rattle.auth.specs.declared.AuthRead.{AuthRead}
-use Rattle.checks.specs.Answers.{written-as}
+use Rattle.checks.specs.Answers.{written-as, whole}
 use Rattle.checks.specs.declared.WriteAnswer.{WriteAnswer}
 use Rattle.checks.specs.declared.WriteAnswer.the-variants as write
-use Rattle.only_authenticated.specs.Codes.{whole}
 use Rattle.body_reader.specs.declared.HeaderBody.{HeaderBody}
 use Rattle.body_reader.specs.declared.HeaderBodyAnswer.{HeaderBodyAnswer}
 use Rattle.body_reader.specs.declared.HeaderBodyAnswer.the-variants as body
@@ -102,6 +102,10 @@ pub record TrustedPromises : Type 0 where
   pub of-only-authenticated : (text required m : List ℕ) (s n : ℕ) → length m ≤ 4294967295 → n ≤ length m → (before after after′ : List ℕ) (r r′ : WriteAnswer)
       → Reads written-as whole (operation (write-only-authenticated text required (length before)) (take n m) s) before after r
       → Reads written-as whole (operation (write-only-authenticated text required (length before)) m s) before after′ r′
+      → TwoRuns (λ p. left (write.Refused (because 2 p)) before) n (length m) (left r after) (left r′ after′)
+  pub of-reissue : (a : Reissue) (m : List ℕ) (s n : ℕ) → length m ≤ 4294967295 → n ≤ length m → (before after after′ : List ℕ) (r r′ : WriteAnswer)
+      → Reads written-as whole (operation (reissue-header-body a (length before)) (take n m) s) before after r
+      → Reads written-as whole (operation (reissue-header-body a (length before)) m s) before after′ r′
       → TwoRuns (λ p. left (write.Refused (because 2 p)) before) n (length m) (left r after) (left r′ after′)
   pub of-find : (k m : List ℕ) (s n : ℕ) → length m ≤ 4294967295 → n ≤ length m → (r r′ : FoundAnswer) → r ≡ found-of (operation (find-value k) (take n m) s)
       → r′ ≡ found-of (operation (find-value k) m s) → TwoRuns (λ p. found.Refused (because 2 p)) n (length m) r r′

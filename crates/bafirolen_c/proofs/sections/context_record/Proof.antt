@@ -1,9 +1,0 @@
-use Rattle.bafirolen_c.proofs.Crossing.{context-accepted, context-refused}
-use borrow.Author.Needs.{needs}
-use Rattle.bafirolen_c.proofs.sections.context_record.Statement.{statement}
-use Rattle.bafirolen_c.proofs.sections.context_record.Tie as tie
-
-ruleset laws = (context-accepted, context-refused, needs)
-
-pub context-record-spec : {M : Type 1} → statement M
-context-record-spec = tie.close (tie.spec (λ c. search laws) (λ c κs. search laws) (λ c. search laws) (λ c κs. search laws) (λ c. search laws) (λ c. search laws))

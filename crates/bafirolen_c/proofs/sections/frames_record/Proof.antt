@@ -1,9 +1,0 @@
-use Rattle.bafirolen_c.proofs.Crossing.{frames-accepted, frames-refused}
-use borrow.Author.Needs.{needs}
-use Rattle.bafirolen_c.proofs.sections.frames_record.Statement.{statement}
-use Rattle.bafirolen_c.proofs.sections.frames_record.Tie as tie
-
-ruleset laws = (frames-accepted, frames-refused, needs)
-
-pub frames-record-spec : {M : Type 1} → statement M
-frames-record-spec = tie.close (tie.spec (λ c. search laws) (λ c κs. search laws) (λ c. search laws) (λ c κs. search laws) (λ c. search laws) (λ c. search laws))

@@ -1,9 +1,0 @@
-use Rattle.body_write.proofs.VersionLaws.{by-first, by-second}
-use borrow.Author.Needs.{needs}
-use Rattle.body_write.proofs.opening.opening_size.Statement.{statement}
-use Rattle.body_write.proofs.opening.opening_size.Tie as tie
-
-ruleset laws = (by-first, by-second, needs)
-
-pub opening-size-spec : {M : Type 1} → statement M
-opening-size-spec = tie.close (tie.spec (λ c. search laws) (λ c. search laws))

@@ -1,0 +1,4 @@
+pub mod VersionLaws
+pub mod SuiteLaws
+pub mod LeadLaws
+pub mod Ends
