@@ -1,7 +1,7 @@
 /*
- * Message headers of the AWS Encryption SDK: reads, writes, mends and lists header bodies, reads and writes their two sections and
- * authentication records, and the frames behind them. For hosts in C99 and C++11 and later. Nothing is verified, signed, encrypted
- * or decrypted: that a header or a frame is accepted says how it is built, and not whose it is.
+ * Message headers of the AWS Encryption SDK: reads, writes, mends, reissues and lists header bodies, reads and writes their two
+ * sections and authentication records, and the frames behind them. For hosts in C99 and C++11 and later. Nothing is verified,
+ * signed, encrypted or decrypted: that a header or a frame is accepted says how it is built, and not whose it is.
  *
  * Link libbafirolen_c.a: code for x86-64 and the System V calling convention (Linux). It calls memcpy and memset, and nothing
  * else. In the repository `rt staticlib bafirolen_c` writes it into target/staticlib, and hosts/c has examples.
@@ -10,7 +10,7 @@
  * bafirolen_header_position where it ends, or how many bytes are wanted. A host that wants the fields calls
  * bafirolen_read_header_body; one that has a commitment policy, a function of bafirolen_policy.h in its place. bafirolen_fetch.h
  * has the loop for a header that comes in pieces, as from a pipe. bafirolen_drafts.h takes encrypted data keys out of a body in the
- * buffer in which it stands, and adds one.
+ * buffer in which it stands, and adds one; bafirolen_reissue.h turns a body of version 1 into one of version 2.
  *
  * LENDING. A pointer and a length together are one lent part: `const uint8_t *message, size_t message_len`. The length counts
  * elements: bytes of a message, numbers of a table (`sizeof table` counts bytes: lend sizeof table / sizeof *table). A part of
@@ -52,6 +52,7 @@
 #include "bafirolen_policy.h"
 #include "bafirolen_records.h"
 #include "bafirolen_refusals.h"
+#include "bafirolen_reissue.h"
 
 #ifdef __cplusplus
 extern "C" {
@@ -61,7 +62,7 @@ extern "C" {
  * The version of these declarations, which grows by one with each change of them. bafirolen_version gives that of the archive:
  * where the two differ, the archive was made for another header file than this. A host of version 9 knows no refusal 40.
  */
-#define BAFIROLEN_VERSION 10
+#define BAFIROLEN_VERSION 11
 uint32_t bafirolen_version(void);
 
 /*
@@ -70,7 +71,7 @@ uint32_t bafirolen_version(void);
  * also takes what the dynamic linker takes, for which these figures leave some room. bafirolen_version takes less than
  * BAFIROLEN_STACK_KEYS.
  */
-#define BAFIROLEN_STACK_READ 40960               /* read a context section or a body; find and copy a value; mend a draft */
+#define BAFIROLEN_STACK_READ 40960               /* read a context section or a body; find, copy a value; mend, reissue a draft */
 #define BAFIROLEN_STACK_KEYS 1024                /* key sections, authentication records and frames, and the length of frames */
 #define BAFIROLEN_STACK_ONLY_AUTHENTICATED 57344 /* write the pairs of required keys, whose order lies on the stack */
 #define BAFIROLEN_STACK_LISTED 73728             /* the number, the position, the listing: their tables lie on the stack */

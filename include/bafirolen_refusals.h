@@ -11,10 +11,10 @@
  *
  * BAFIROLEN_REFUSED_PAIR_TABLE_TOO_SHORT, .._KEY_TABLE_TOO_SHORT, .._OUTPUT_TOO_SHORT: lend more, and call again. The answer does
  * not say how much: lend twice as much, or a table of BAFIROLEN_LARGEST_PAIR_TABLE or BAFIROLEN_LARGEST_KEY_TABLE numbers, or of
- * as many as bafirolen_frame_table_len gives for frames. How long an output has to be, bafirolen_header_body_len says of a body and
- * bafirolen_frames_len of frames before they are written, and of all else the writers' comments; a draft that a key is added to
- * wants a buffer of its length, 6 bytes, and the key's parts. The two calls and the listing have tables of their own; where these
- * are too short, call bafirolen_read_header_body.
+ * as many as bafirolen_frame_table_len gives for frames. How long an output has to be, bafirolen_header_body_len says of a body,
+ * bafirolen_reissued_header_body_len of a reissued one and bafirolen_frames_len of frames before they are written, and of all else
+ * the writers' comments; a draft that a key is added to wants a buffer of its length, 6 bytes, and the key's parts. The two calls
+ * and the listing have tables of their own; where these are too short, call bafirolen_read_header_body.
  *
  * Every other: neither more bytes nor more room change it. From a reader: reject the message (4, 15, 21 and 39 depend on what you
  * asked for). From a writer: correct the fields or frames, or with 31 the required table, and with 39 write the version that the
@@ -23,6 +23,8 @@
  * BAFIROLEN_REFUSED_NO_KEY_REMAINS: the draft is good, and has no key but those that were to be dropped; it still has them. Add
  * the key of another station first, and then drop them. What else bafirolen_drafts.h refuses of a draft is as from a reader; with
  * 27, and with 16 where the draft itself can be read, correct the key that was to be added.
+ * What bafirolen_reissue.h refuses of a draft is as from a reader, too; one that is refused by 4 is of version 2 already. With 24
+ * and 25, and with 6 and 7 where the draft itself can be read, correct what was to be added.
  */
 #ifndef BAFIROLEN_REFUSALS_H
 #define BAFIROLEN_REFUSALS_H

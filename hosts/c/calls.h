@@ -173,4 +173,17 @@ static void add_key(void)
         bafirolen_add_encrypted_data_key(lent->out, out_len, (const uint8_t *)"new", 3, body.bytes, 4, body.bytes, 7);
 }
 
+/* with bytes of the body for what is added */
+static void reissue(void)
+{
+    lent->answer.written = bafirolen_reissue_header_body(body.bytes, body.length, 0, 0x0578, body.bytes, 32, body.bytes + 1, 32,
+                                                         lent->out, out_len);
+}
+
+static void reissued_length(void)
+{
+    lent->answer.written =
+        bafirolen_reissued_header_body_len(body.bytes, body.length, 0, 0x0578, body.bytes, 32, body.bytes + 1, 32);
+}
+
 #endif

@@ -8,6 +8,7 @@
  *     valgrind --error-exitcode=1 target/exact_c
  */
 #include "drafts.h"
+#include "reissues.h"
 
 /* without a policy by the function that has none */
 static BafirolenBody body_of(const uint8_t *m, size_t n, uint32_t which, uint32_t mode, uint32_t policy, uint32_t *p, size_t np,
@@ -275,6 +276,7 @@ int main(void)
     read_cuts(old, length, 1, 1);
     write_again(old, length);
     mend_cuts(old, length);
+    reissue_cuts(old, length);
     write_again(old, in_old_form(V2, sizeof V2, 35, old));
     write_parts();
     read_frame_cuts();
@@ -282,5 +284,8 @@ int main(void)
     mend_cuts(H, sizeof H);
     mend_cuts(V2, sizeof V2);
     mend_cuts(two, draft_of(two, 1, 1, both, 2));
+    reissue_cuts(H, sizeof H);
+    reissue_cuts(V2, sizeof V2);
+    reissue_cuts(two, draft_of(two, 1, 2, both, 2));
     return compared();
 }

@@ -5,9 +5,7 @@
  *     gcc -std=c99 -O2 -Wall -Wextra -Iinclude hosts/c/file_header.c target/staticlib/libbafirolen_c.a -o target/file_header
  *     target/file_header FILE
  */
-#include "example.h"
-
-#include <stdlib.h>
+#include "message.h"
 
 static const char program[] = "file_header";
 
@@ -22,18 +20,6 @@ static BafirolenNumbers numbers(void)
     return bafirolen_v1_numbers(0x0178, BAFIROLEN_FRAMED, 4096);
 }
 
-/* n numbers of two tables, start and length by turns, lead to the same bytes */
-static int same_parts(const uint8_t *header, const uint32_t *read, const uint32_t *lent, size_t n)
-{
-    size_t i;
-    for (i = 0; i < n; i += 2) {
-        if (read[i + 1] != lent[i + 1] || memcmp(header + read[i], text + lent[i], lent[i + 1]) != 0) {
-            return 0;
-        }
-    }
-    return 1;
-}
-
 /* the header can be read, to its end, and what is read is what was to be written */
 static int reads_back(const uint8_t *header, size_t length)
 {
@@ -43,7 +29,7 @@ static int reads_back(const uint8_t *header, size_t length)
         bafirolen_read_header_body(header, length, 0, BAFIROLEN_EITHER, BAFIROLEN_STRICT, BAFIROLEN_NO_MAX, 0, p, 4, k, 6);
     return b.number == BAFIROLEN_ACCEPTED && b.tail == length && memcmp(&b.numbers, &n, sizeof n) == 0
            && b.messageIdLen == sizeof id && memcmp(header + b.messageIdStart, id, sizeof id) == 0 && b.suiteDataLen == 0
-           && b.pairCount == 1 && b.keyCount == 1 && same_parts(header, p, pairs, 4) && same_parts(header, k, keys, 6);
+           && b.pairCount == 1 && b.keyCount == 1 && same_parts(header, p, text, pairs, 4) && same_parts(header, k, text, keys, 6);
 }
 
 /* how long the header is; version 1 has no suite data */

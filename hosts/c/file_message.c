@@ -72,18 +72,6 @@ static int lend(struct lent *l, const uint8_t *content, size_t length)
     return 1;
 }
 
-/* n numbers of two tables, start and length by turns, lead to the same bytes */
-static int same_parts(const uint8_t *m, const uint32_t *read, const uint8_t *text, const uint32_t *lent, size_t n)
-{
-    size_t i;
-    for (i = 0; i < n; i += 2) {
-        if (read[i + 1] != lent[i + 1] || memcmp(m + read[i], text + lent[i], lent[i + 1]) != 0) {
-            return 0;
-        }
-    }
-    return 1;
-}
-
 /* the frames from `start` on can be read, to the message's end, and have the parts that were to be written */
 static int frames_read_back(const uint8_t *m, size_t length, uint64_t start, const struct lent *l)
 {

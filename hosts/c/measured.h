@@ -8,7 +8,7 @@
 
 #include "lending.h"
 
-static size_t kept_from(const uint8_t *o, size_t front, size_t room)
+static inline size_t kept_from(const uint8_t *o, size_t front, size_t room)
 {
     while (room > front && o[room - 1] == KEPT) {
         room--;
@@ -17,7 +17,8 @@ static size_t kept_from(const uint8_t *o, size_t front, size_t room)
 }
 
 /* into exactly so many bytes: the answer, and the image in front of what keeps */
-static void written_into(const char *what, struct request r, size_t room, uint64_t number, const uint8_t *image, size_t length)
+static inline void written_into_at(const char *what, struct request r, size_t room, uint64_t number, uint64_t position,
+                                   const uint8_t *image, size_t length)
 {
     const size_t front = number == BAFIROLEN_ACCEPTED ? length : 0;
     uint8_t *o = malloc(room);
@@ -25,14 +26,20 @@ static void written_into(const char *what, struct request r, size_t room, uint64
         abort();
     }
     memset(o, KEPT, room);
-    written_is(what, written(r, o, room), number, front);
+    written_at(what, written(r, o, room), number, position, front);
     same_bytes(what, o, image, front);
     same(what, kept_from(o, front, room), front);
     free(o);
 }
 
+static inline void written_into(const char *what, struct request r, size_t room, uint64_t number, const uint8_t *image,
+                                size_t length)
+{
+    written_into_at(what, r, room, number, 0, image, length);
+}
+
 /* what is lent takes just so many bytes */
-static void fits(const char *what, struct request r, const uint8_t *image, size_t length)
+static inline void fits(const char *what, struct request r, const uint8_t *image, size_t length)
 {
     written_is(what, measured(r), BAFIROLEN_ACCEPTED, length);
     written_into(what, r, length, BAFIROLEN_ACCEPTED, image, length);
@@ -41,13 +48,18 @@ static void fits(const char *what, struct request r, const uint8_t *image, size_
 }
 
 /* the length is refused, and the writer answers the same without room and with plenty */
-static void refused_by(const char *what, struct request r, uint64_t number)
+static inline void refused_at(const char *what, struct request r, uint64_t number, uint64_t position, size_t plenty)
 {
     r = lend_all(r);
-    written_is(what, measured(r), number, 0);
-    written_into(what, r, 0, number, r.text, 0);
-    written_into(what, r, 70000, number, r.text, 0);
+    written_at(what, measured(r), number, position, 0);
+    written_into_at(what, r, 0, number, position, r.text, 0);
+    written_into_at(what, r, plenty, number, position, r.text, 0);
     let_go();
+}
+
+static inline void refused_by(const char *what, struct request r, uint64_t number)
+{
+    refused_at(what, r, number, 0, 70000);
 }
 
 #endif

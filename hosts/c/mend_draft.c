@@ -16,11 +16,6 @@ struct draft {
     size_t length;
 };
 
-struct part {
-    const uint8_t *bytes;
-    size_t length;
-};
-
 /* The draft is as long as the answer says: 0; or 1, and the refusal is written. */
 static int mended(struct draft *d, BafirolenWritten w)
 {

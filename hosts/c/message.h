@@ -1,4 +1,4 @@
-/* A message from a file, for the examples. */
+/* A message from a file, and parts of messages, for the examples. */
 #ifndef MESSAGE_H
 #define MESSAGE_H
 
@@ -8,6 +8,23 @@
 #include <stdint.h>
 #include <stdio.h>
 #include <stdlib.h>
+
+struct part {
+    const uint8_t *bytes;
+    size_t length;
+};
+
+/* n numbers of two tables, start and length by turns, lead to the same bytes of two messages or texts */
+static inline int same_parts(const uint8_t *m, const uint32_t *read, const uint8_t *text, const uint32_t *lent, size_t n)
+{
+    size_t i;
+    for (i = 0; i < n; i += 2) {
+        if (read[i + 1] != lent[i + 1] || memcmp(m + read[i], text + lent[i], lent[i + 1]) != 0) {
+            return 0;
+        }
+    }
+    return 1;
+}
 
 /* The bytes of a file, to be freed, in *length; or null, and errno says why. */
 static inline uint8_t *message_of(const char *path, size_t *length)

@@ -203,15 +203,42 @@ static void drafts(void)
     output_is("dropped again", longer, n);
 }
 
-/* a header that is lent whole is accepted by each reader, written by each writer and mended, or the sets above would show little;
- * one without a key is refused by each that reads or writes its keys, and accepted by the others */
+/* no draft; an old one for which there is no ID, no suite data or no room; and the same reissued, ID and suite data all 00 */
+static void reissues(void)
+{
+    static const uint8_t none[32];
+    static const uint8_t image[82] = {[0] = 0x02, [1] = 0x04, [2] = 0x78, [38] = 0x01, [45] = 0x02, [48] = 0x10};
+    BafirolenWritten w;
+    w = bafirolen_reissued_header_body_len(NULL, 0, 0, 0x0478, NULL, 0, NULL, 0);
+    written_at("no draft", w, BAFIROLEN_REFUSED_SHORTAGE, 1, 0);
+    w = bafirolen_reissue_header_body(NULL, 0, 0, 0x0478, NULL, 0, NULL, 0, NULL, 0);
+    written_at("no draft", w, BAFIROLEN_REFUSED_SHORTAGE, 1, 0);
+    w = bafirolen_reissue_header_body(OLD, sizeof OLD, 0, 0x0478, NULL, 0, NULL, 0, NULL, 0);
+    written_is("no ID", w, BAFIROLEN_REFUSED_ID_LENGTH, 0);
+    w = bafirolen_reissue_header_body(OLD, sizeof OLD, 0, 0x0478, none, 32, NULL, 0, NULL, 0);
+    written_is("no suite data", w, BAFIROLEN_REFUSED_SUITE_DATA_LENGTH, 0);
+    w = bafirolen_reissue_header_body(OLD, sizeof OLD, 0, 0x0478, none, 32, none, 32, NULL, 0);
+    written_is("no room", w, BAFIROLEN_REFUSED_OUTPUT_TOO_SHORT, 0);
+    fresh();
+    w = bafirolen_reissue_header_body(OLD, sizeof OLD, 0, 0x0478, none, 32, none, 32, out, BYTES);
+    written_is("reissued", w, 0, sizeof image);
+    output_is("reissued", image, sizeof image);
+}
+
+/* a header that is lent whole is accepted by each reader, written by each writer, mended and reissued, or the sets above would show
+ * little; one without a key is refused by each that reads or writes its keys, and accepted by the others; one of version 2 is not
+ * reissued */
 static void whole(const struct export *e)
 {
     const int under = e->call == read_body_under || e->call == write_body_under || e->call == body_length_under;
+    const int reissues = e->call == reissue || e->call == reissued_length;
     const int of_keys = e->call == number || e->call == read_body || e->call == read_keys || e->call == write_keys
-                        || e->call == write_body || e->call == body_length || e->call == drop_keys || e->call == add_key || under;
+                        || e->call == write_body || e->call == body_length || e->call == drop_keys || e->call == add_key || under
+                        || reissues;
     ask(e->call, 0, NULL);
-    if (h->key_numbers == 0 && of_keys) {
+    if (reissues && h->numbers.version == 2) {
+        same(e->name, answer.record.number, BAFIROLEN_REFUSED_OTHER_VERSION);
+    } else if (h->key_numbers == 0 && of_keys) {
         same(e->name, answer.record.number, BAFIROLEN_REFUSED_NO_ENCRYPTED_DATA_KEY);
     } else if (e->call != position && !(h->pair_numbers == 0 && (e->call == find || e->call == copy))) {
         same(e->name, answer.record.number, BAFIROLEN_ACCEPTED);
@@ -240,6 +267,7 @@ int main(void)
     frames();
     required_keys();
     drafts();
+    reissues();
     free(allocated);
     return compared();
 }

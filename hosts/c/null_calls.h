@@ -163,6 +163,17 @@ static void add_key(void)
         bafirolen_add_encrypted_data_key(LENT(0, out, BYTES), LENT(1, "p2", 2), LENT(2, "b", 1), LENT(3, "\xDD", 1));
 }
 
+static void reissue(void)
+{
+    answer.record.written =
+        bafirolen_reissue_header_body(MESSAGE, 0, 0x0578, LENT(1, H, 32), LENT(2, H + 26, 32), LENT(3, out, BYTES));
+}
+
+static void reissued_length(void)
+{
+    answer.record.written = bafirolen_reissued_header_body_len(MESSAGE, 0, 0x0578, LENT(1, H, 32), LENT(2, H + 26, 32));
+}
+
 static const struct export {
     const char *name;
     void (*call)(void);
@@ -189,6 +200,8 @@ static const struct export {
                {"bafirolen_header_body_len_under_policy", body_length_under, 5},
                {"bafirolen_write_only_authenticated", write_only_authenticated, 4},
                {"bafirolen_drop_encrypted_data_keys", drop_keys, 2},
-               {"bafirolen_add_encrypted_data_key", add_key, 4}};
+               {"bafirolen_add_encrypted_data_key", add_key, 4},
+               {"bafirolen_reissue_header_body", reissue, 4},
+               {"bafirolen_reissued_header_body_len", reissued_length, 3}};
 
 #endif

@@ -54,7 +54,9 @@ static struct export {
                {"bafirolen_write_header_body_under_policy", write_body_under, BAFIROLEN_STACK_WRITE, 0},
                {"bafirolen_header_body_len_under_policy", body_length_under, BAFIROLEN_STACK_WRITE, 0},
                {"bafirolen_drop_encrypted_data_keys", drop_keys, BAFIROLEN_STACK_READ, 0},
-               {"bafirolen_add_encrypted_data_key", add_key, BAFIROLEN_STACK_READ, 0}};
+               {"bafirolen_add_encrypted_data_key", add_key, BAFIROLEN_STACK_READ, 0},
+               {"bafirolen_reissue_header_body", reissue, BAFIROLEN_STACK_READ, 0},
+               {"bafirolen_reissued_header_body_len", reissued_length, BAFIROLEN_STACK_READ, 0}};
 
 /* the stack's lowest byte, above the guard; and what is written where a call reaches the guard */
 static uint8_t *lowest;
@@ -146,6 +148,17 @@ static void mended(const struct export *e)
     same(e->name, at_the_end.answer.written.length, number == BAFIROLEN_ACCEPTED ? length : 0);
 }
 
+/* a draft of version 1 becomes 42 bytes longer, or 40 where it is of the old form */
+static void reissued(const struct export *e)
+{
+    const uint64_t number = shape.version == 2 ? BAFIROLEN_REFUSED_OTHER_VERSION
+                          : shape.keys == 0    ? BAFIROLEN_REFUSED_NO_ENCRYPTED_DATA_KEY
+                                               : BAFIROLEN_ACCEPTED;
+    const size_t length = body.length + (shape.form == BAFIROLEN_OLD ? 40 : 42);
+    same(e->name, at_the_end.answer.number, number);
+    same(e->name, at_the_end.answer.written.length, number == BAFIROLEN_ACCEPTED ? length : 0);
+}
+
 /* a body without a fault is accepted: what takes the most stack is not left out by a refusal; and where there is no key, those
  * that read or write keys refuse it */
 static void accepted(const struct export *e)
@@ -163,6 +176,8 @@ static void accepted(const struct export *e)
         frames_accepted(e);
     } else if (e->call == drop_keys || e->call == add_key) {
         mended(e);
+    } else if (e->call == reissue || e->call == reissued_length) {
+        reissued(e);
     } else if (shape.keys == 0 && (of_keys || e->call == number)) {
         same(e->name, at_the_end.answer.number, BAFIROLEN_REFUSED_NO_ENCRYPTED_DATA_KEY);
     } else if (!bare && !(finds && (shape.pairs == 0 || find_key == absent))) {

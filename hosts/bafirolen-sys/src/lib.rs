@@ -1,8 +1,8 @@
 //! The proved operations as they cross the boundary to C: a lent slice is a
 //! pointer and a length, a record is passed and returned by value.
-//! `include/bafirolen.h`, `include/bafirolen_policy.h` and
-//! `include/bafirolen_drafts.h` have the same declarations for C; the crate
-//! `bafirolen` has safe functions over these.
+//! `include/bafirolen.h`, `include/bafirolen_policy.h`,
+//! `include/bafirolen_drafts.h` and `include/bafirolen_reissue.h` have the same
+//! declarations for C; the crate `bafirolen` has safe functions over these.
 //!
 //! # Safety
 //!
@@ -26,6 +26,7 @@
 mod drafts;
 mod policy;
 mod records;
+mod reissue;
 
 pub use drafts::*;
 pub use policy::*;
@@ -33,10 +34,11 @@ pub use records::{
     BafirolenAuth, BafirolenBody, BafirolenNumbers, BafirolenPlace, BafirolenSection,
     BafirolenWritten,
 };
+pub use reissue::*;
 
 /// The declarations here are those of an archive whose [`bafirolen_version`]
 /// answers this. A host of version 9 knows no refusal 40.
-pub const VERSION: u32 = 10;
+pub const VERSION: u32 = 11;
 
 extern "C" {
     /// Which declarations the archive was made for.

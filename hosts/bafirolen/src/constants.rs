@@ -37,9 +37,9 @@ pub const fn frame_table_len(bytes: usize, frame_length: u32) -> usize {
 }
 
 /// Bytes of stack that a call to read a context or a body, to find or copy a
-/// value, or to drop or add keys, may take. This figure and the four below were
-/// measured on the archive and rounded up, and a test holds it to them; nothing
-/// proves them.
+/// value, to drop or add keys, or to reissue a draft, may take. This figure and
+/// the four below were measured on the archive and rounded up, and a test holds
+/// it to them; nothing proves them.
 pub const STACK_READ: usize = 40_960;
 
 /// Bytes of stack for key sections, authentication records and frames, read or

@@ -12,10 +12,11 @@
 //!
 //! # Lending
 //!
-//! No function but [`header_body_to_vec`], [`frames_to_vec`] and
-//! [`add_encrypted_data_key_to_vec`] allocates, and none keeps anything. A
-//! reader takes a message and the place where it starts, and fills lent tables of
-//! numbers with the places of what it read:
+//! No function but [`header_body_to_vec`], [`frames_to_vec`],
+//! [`add_encrypted_data_key_to_vec`] and [`reissued_header_body_to_vec`]
+//! allocates, and none keeps anything. A reader takes a message and the place
+//! where it starts, and fills lent tables of numbers with the places of what it
+//! read:
 //! [`NUMBERS_PER_PAIR`] numbers for each pair of the encryption context,
 //! [`NUMBERS_PER_KEY`] for each encrypted data key, [`NUMBERS_PER_FRAME`] for
 //! each frame. Its answer borrows both, and gives the pairs, keys and frames as
@@ -104,6 +105,13 @@
 //! and [`add_encrypted_data_key`] puts one behind the others. All else stays as
 //! it was written.
 //!
+//! # Reissuing
+//!
+//! [`reissue_header_body`] writes a draft of version 1 as a body of version 2,
+//! with a new suite, message ID and suite data, and with the same pairs, keys,
+//! content type and frame length; [`reissued_header_body_len`] says before how
+//! long that is.
+//!
 //! # Refusals
 //!
 //! Whatever is handed in, a function accepts it or answers one [`Refusal`].
@@ -114,7 +122,8 @@
 //!   reject it.
 //! - [`Remedy::LendMore`] (22, 23, 28): a table or the output is too short.
 //!   Lend a longer one, and ask again. No body and no frames are refused so
-//!   whose output has the length that [`header_body_len`] or [`frames_len`] gave.
+//!   whose output has the length that [`header_body_len`],
+//!   [`reissued_header_body_len`] or [`frames_len`] gave.
 //! - [`Remedy::Reject`] (all others): no bytes and no room change the answer.
 //!
 //! The functions say under 'Errors' which refusals they answer, in the order
@@ -143,9 +152,10 @@
 //!
 //! The archive holds x86-64 code for Linux. The crate needs Rust 1.87 or later.
 //! It uses `core`, and with its feature `alloc`, which is on by default, the
-//! crate `alloc` for [`header_body_to_vec`], [`frames_to_vec`] and
-//! [`add_encrypted_data_key_to_vec`], which are all that the feature adds.
-//! Without default features `core` is all, and no allocator is needed.
+//! crate `alloc` for [`header_body_to_vec`], [`frames_to_vec`],
+//! [`add_encrypted_data_key_to_vec`] and [`reissued_header_body_to_vec`], which
+//! are all that the feature adds. Without default features `core` is all, and no
+//! allocator is needed.
 #![no_std]
 #![deny(missing_docs)]
 
@@ -169,6 +179,7 @@ mod parts;
 mod place;
 mod policy;
 mod refusal;
+mod reissuing;
 mod remedy;
 mod request;
 mod sections;
@@ -198,6 +209,9 @@ pub use parts::{Key, Keys, Pair, Pairs};
 pub use place::Place;
 pub use policy::Policy;
 pub use refusal::Refusal;
+#[cfg(feature = "alloc")]
+pub use reissuing::reissued_header_body_to_vec;
+pub use reissuing::{reissue_header_body, reissued_header_body_len, Reissue};
 pub use remedy::Remedy;
 pub use request::{Mode, Request, Which};
 pub use sections::{read_aad_section, read_encrypted_data_keys_section, Context, KeySection};

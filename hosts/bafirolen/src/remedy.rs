@@ -40,9 +40,10 @@ pub enum Remedy {
     /// Tables of [`LARGEST_PAIR_TABLE`](crate::LARGEST_PAIR_TABLE) and
     /// [`LARGEST_KEY_TABLE`](crate::LARGEST_KEY_TABLE) numbers always suffice,
     /// and for frames as many as [`frame_table_len`](crate::frame_table_len)
-    /// says. For a body [`header_body_len`](crate::header_body_len), and for
-    /// frames [`frames_len`](crate::frames_len), says exactly how long an output
-    /// is wanted.
+    /// says. For a body [`header_body_len`](crate::header_body_len), for a
+    /// reissued one [`reissued_header_body_len`](crate::reissued_header_body_len),
+    /// and for frames [`frames_len`](crate::frames_len), says exactly how long an
+    /// output is wanted.
     LendMore,
     /// All others: the request is refused whatever more is fetched or lent. A
     /// reader's caller rejects the message (4, 15, 21 and 39 depend on what was
@@ -53,6 +54,9 @@ pub enum Remedy {
     /// without an encrypted data key is rejected, and a draft is given one; a
     /// message of a version that the policy forbids is rejected, and a draft is
     /// made one of the other version. 40 is answered where keys are dropped: the
-    /// draft is good and still has them; another station's key is added first.
+    /// draft is good and still has them; another station's key is added first. Where
+    /// a draft is [reissued](crate::reissue_header_body), 4 says that it is of
+    /// version 2 already, and 6 and 7 are of its own suite if it is refused by them
+    /// when it is read, else of the new one.
     Reject,
 }

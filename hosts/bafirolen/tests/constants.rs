@@ -3,11 +3,12 @@
 use bafirolen::*;
 
 const POLICIES: &str = include_str!("../../../include/bafirolen_policy.h");
-const HEADERS: [&str; 5] = [
+const HEADERS: [&str; 6] = [
     include_str!("../../../include/bafirolen.h"),
     include_str!("../../../include/bafirolen_drafts.h"),
     include_str!("../../../include/bafirolen_fetch.h"),
     include_str!("../../../include/bafirolen_records.h"),
+    include_str!("../../../include/bafirolen_reissue.h"),
     POLICIES,
 ];
 

@@ -1,13 +1,15 @@
 //! The functions' lists of refusals under 'Errors' are those that the
 //! comparisons hold each operation to, in the documents' order of tests.
 //! (`copy_value` and `find_bytes` refer to `find_value` for theirs, and the
-//! first adds 28; `header_body_to_vec` and `frames_to_vec` refer to the lengths,
-//! `add_encrypted_data_key_to_vec` to the function that it calls.)
+//! first adds 28; `header_body_to_vec`, `frames_to_vec` and
+//! `reissued_header_body_to_vec` refer to the lengths,
+//! `add_encrypted_data_key_to_vec` to the function that it calls, and
+//! `reissued_header_body_len` to the one that it measures for.)
 
 use bafirolen::Refusal;
 use report::{assert_said, LISTED};
 
-const SOURCES: [&str; 11] = [
+const SOURCES: [&str; 12] = [
     include_str!("../src/auth.rs"),
     include_str!("../src/body.rs"),
     include_str!("../src/body_len.rs"),
@@ -17,12 +19,13 @@ const SOURCES: [&str; 11] = [
     include_str!("../src/host.rs"),
     include_str!("../src/mending.rs"),
     include_str!("../src/only_authenticated.rs"),
+    include_str!("../src/reissuing.rs"),
     include_str!("../src/sections.rs"),
     include_str!("../src/writes.rs"),
 ];
 
 /// A function, and what its operations in the comparisons begin with.
-const ROWS: [(&str, &str); 17] = [
+const ROWS: [(&str, &str); 18] = [
     ("read_aad_section", "read section"),
     ("read_encrypted_data_keys_section", "read keys"),
     ("read_header_body", "read body"),
@@ -40,6 +43,7 @@ const ROWS: [(&str, &str); 17] = [
     ("write_only_authenticated", "write only authenticated"),
     ("drop_encrypted_data_keys", "drop keys"),
     ("add_encrypted_data_key", "add key"),
+    ("reissue_header_body", "reissue"),
 ];
 
 /// What stands under 'Errors' over the function, as one line.
@@ -98,6 +102,12 @@ fn some_refer_to_others() {
         (
             "add_encrypted_data_key_to_vec",
             "add_encrypted_data_key",
+            &[][..],
+        ),
+        ("reissued_header_body_len", "reissue_header_body", &[][..]),
+        (
+            "reissued_header_body_to_vec",
+            "reissued_header_body_len",
             &[][..],
         ),
     ] {

@@ -2,9 +2,10 @@
 //! record would be copied, and the copy measured too.
 
 use crate::answer::told;
-use bafirolen::{Draft, Form, Key, Mode, Numbers, Policy, Refusal, Request};
+use bafirolen::{Draft, Form, Key, Mode, Numbers, Policy, Refusal, Reissue, Request, Which};
 use generator::fields::Fields;
 use generator::image;
+use generator::rows::Added;
 use generator::tables::Lent;
 
 fn number(refusal: Refusal) -> u32 {
@@ -234,6 +235,44 @@ pub fn add_key(draft: &mut [u8], [id, info, ciphertext]: &generator::Key) -> u64
     told(
         bafirolen::add_encrypted_data_key(draft, key)
             .map(|tail| tail as u64)
+            .map_err(number),
+    )
+}
+
+#[inline]
+pub fn reissue(message: &[u8], added: Added, out: &mut [u8]) -> u64 {
+    let reissue = Reissue {
+        suite: added.suite,
+        message_id: added.id,
+        suite_data: added.suite_data,
+    };
+    told(
+        bafirolen::reissue_header_body(message, 0, &reissue, out)
+            .map(|length| length as u64)
+            .map_err(number),
+    )
+}
+
+/// The same body by a reader and the writer.
+#[inline]
+pub fn read_and_write_anew(
+    message: &[u8],
+    added: Added,
+    (pairs, keys): (&mut Vec<u32>, &mut Vec<u32>),
+    out: &mut [u8],
+) -> u64 {
+    let request = Request::default().only(Which::V1Only);
+    told(
+        bafirolen::read_header_body(message, 0, request, pairs, keys)
+            .and_then(|body| {
+                let (content, length) = (body.numbers.content_type, body.numbers.frame_length);
+                let numbers = Numbers::version_2(added.suite, content, length);
+                let draft = Draft::new(numbers, added.id)
+                    .with_suite_data(added.suite_data)
+                    .with_tables(message, body.pair_table(), body.key_table());
+                bafirolen::write_header_body(&draft, out)
+            })
+            .map(|length| length as u64)
             .map_err(number),
     )
 }

@@ -3,9 +3,10 @@
 
 use crate::answer::told;
 use generator::fields::Fields;
+use generator::rows::Added;
 use generator::tables::Lent;
 use generator::Key;
-use reference::{Body, Draft, Mode, Numbers, Policy, Refusal, Request, Which};
+use reference::{Body, Draft, Mode, Numbers, Policy, Refusal, Reissue, Request, Which};
 
 fn number(refusal: Refusal) -> u32 {
     refusal.number
@@ -179,6 +180,16 @@ pub fn drop_keys(draft: &mut [u8], provider_id: &[u8]) -> u64 {
 #[inline]
 pub fn add_key(draft: &mut [u8], [id, info, ciphertext]: &Key) -> u64 {
     told(reference::add_encrypted_data_key(draft, id, info, ciphertext).map_err(number))
+}
+
+#[inline]
+pub fn reissue(message: &[u8], added: Added, out: &mut [u8]) -> u64 {
+    let reissue = Reissue {
+        suite: added.suite,
+        id: added.id,
+        suite_data: added.suite_data,
+    };
+    told(reference::reissue_header_body(message, 0, &reissue, out).map_err(number))
 }
 
 #[inline]

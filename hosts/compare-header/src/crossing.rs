@@ -1,11 +1,11 @@
 //! Bodies read, measured and written by the functions as they cross the
 //! boundary: under the policy of a number, or by those that take none; and
-//! drafts mended.
+//! drafts mended and reissued.
 #![allow(unsafe_code)]
 
 use crate::records::numbers;
 use bafirolen_sys::*;
-use generator::rows::Lent;
+use generator::rows::{Added, Lent};
 
 /// What is asked of a body reader beside a policy, in the numbers that cross.
 #[derive(Clone, Copy, Debug)]
@@ -108,5 +108,28 @@ pub fn add_key(draft: &mut [u8], key: [&[u8]; 3]) -> BafirolenWritten {
     // SAFETY: as for `drop_keys`.
     unsafe {
         bafirolen_add_encrypted_data_key(draft, draft_len, id, id_len, info, info_len, bytes, len)
+    }
+}
+
+pub fn reissue(message: &[u8], start: u64, added: Added, out: &mut [u8]) -> BafirolenWritten {
+    let (m, m_len) = (message.as_ptr(), message.len());
+    let (suite, id, id_len) = (added.suite, added.id.as_ptr(), added.id.len());
+    let (data, data_len) = (added.suite_data.as_ptr(), added.suite_data.len());
+    let (out, out_len) = (out.as_mut_ptr(), out.len());
+    // SAFETY: as for `write`.
+    unsafe {
+        bafirolen_reissue_header_body(
+            m, m_len, start, suite, id, id_len, data, data_len, out, out_len,
+        )
+    }
+}
+
+pub fn reissued_len(message: &[u8], start: u64, added: Added) -> BafirolenWritten {
+    let (m, m_len) = (message.as_ptr(), message.len());
+    let (suite, id, id_len) = (added.suite, added.id.as_ptr(), added.id.len());
+    let (data, data_len) = (added.suite_data.as_ptr(), added.suite_data.len());
+    // SAFETY: as for `length`.
+    unsafe {
+        bafirolen_reissued_header_body_len(m, m_len, start, suite, id, id_len, data, data_len)
     }
 }

@@ -7,9 +7,10 @@
 //! Each body that is to be written, and each run of frames, is measured first,
 //! and written into outputs that just hold it and just don't.
 //!
-//! `under_policy` does the same with bodies under a policy, by its number, and
-//! `mends` with drafts, both with the records as they cross: a wrapper has no
-//! unknown policy. For that `crossing`, and nothing else here, is unsafe.
+//! `under_policy` does the same with bodies under a policy, by its number,
+//! `mends` with drafts that are mended, and `reissues` with those that are
+//! reissued, all with the records as they cross: a wrapper has no unknown
+//! policy. For that `crossing`, and nothing else here, is unsafe.
 //!
 //! `fetched` asks one request to read of longer and longer fronts of a message,
 //! and holds the answers to what the shorter ones promise of the longer.
@@ -29,6 +30,7 @@ pub mod numbers;
 mod parts;
 pub mod reads;
 pub mod records;
+pub mod reissues;
 pub mod scale;
 pub mod under_policy;
 pub mod writes;

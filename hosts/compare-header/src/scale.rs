@@ -4,7 +4,7 @@ use std::ops::Range;
 
 /// The comparisons that all generated tests make together by the counts that
 /// they name. It takes about a minute on one core.
-const BY_DEFAULT: u64 = 28_200_000;
+const BY_DEFAULT: u64 = 29_400_000;
 
 /// With fewer than these, a rare refusal may not come about, and the tests
 /// want each that an operation lists.

@@ -5,7 +5,7 @@
 use bafirolen::{most_rounds, Form, Mode, Which};
 use compare_header::crossing;
 use compare_header::fetched::{Body, BodyUnderPolicy, Context, Feeder, Find, Frames};
-use compare_header::fetched::{Host, Keys, OnlyAuthenticated, Record};
+use compare_header::fetched::{Host, Keys, OnlyAuthenticated, Record, Reissued};
 use compare_header::scale::no_fewer;
 use compare_header::{request, BODY_READERS, BODY_READERS_UNDER_POLICY};
 use generator::auth_cases::auth_case;
@@ -14,6 +14,7 @@ use generator::frame_cases::frame_case;
 use generator::key_cases::key_case;
 use generator::only_cases::only_case;
 use generator::policy_cases::read_case;
+use generator::reissue_cases::reissue_case;
 use generator::section_cases::section_case;
 
 /// Other messages than those that are read whole elsewhere.
@@ -125,6 +126,20 @@ fn told_to_a_host() {
         feeder.feed("read body tolerant", &Host, &case.message, case.start);
     }
     feeder.seen.report("messages told to a host");
+}
+
+/// All of a draft is there before what is added is looked at.
+#[test]
+fn drafts_reissued() {
+    let mut feeder = Feeder::new(1_090);
+    for seed in no_fewer(4_000) {
+        let case = reissue_case(seed ^ APART);
+        let (added, out) = (case.added(), &case.out[..]);
+        let reissued = Reissued { added, out };
+        feeder.feed("reissue body", &reissued, &case.message, case.start);
+    }
+    let operations = ["reissue body"];
+    feeder.seen.assert_complete("drafts to reissue", operations);
 }
 
 #[test]

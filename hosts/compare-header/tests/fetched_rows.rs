@@ -5,7 +5,7 @@ use compare_header::compared;
 use compare_header::fetched::Fetching;
 use generator::rows::policies::NUMBERS;
 use generator::rows::{frames, headers, no_key, only_authenticated, policies, policy_faults};
-use generator::rows::{records, section_ends, sections};
+use generator::rows::{records, reissuing, reissuing_refusals, section_ends, sections};
 
 /// No row is lost, and these numbers came about before a message was there
 /// whole.
@@ -113,5 +113,26 @@ fn of_records_and_frames() {
         (rows, wanted),
         "rows of records and frames",
         &[0, 1, 2, 20, 23, 34, 35],
+    );
+}
+
+#[test]
+fn of_drafts_to_reissue() {
+    let codec = Fetching::new(1_197);
+    let rows = reissuing::in_full(&codec)
+        + reissuing::suites(&codec)
+        + reissuing_refusals::every_cut(&codec)
+        + reissuing_refusals::fields(&codec)
+        + reissuing_refusals::contexts(&codec)
+        + reissuing_refusals::starts(&codec);
+    let accepted = (3 + 9 * 2) * reissuing::ACCEPTED;
+    let refused = (2 * 50 + 16 + 9 + 9) * reissuing_refusals::ANSWERS;
+    held(
+        codec,
+        (rows, accepted + refused),
+        "rows of drafts to reissue",
+        &[
+            1, 2, 3, 4, 5, 6, 7, 8, 9, 10, 11, 12, 14, 16, 17, 18, 19, 20, 32, 38,
+        ],
     );
 }

@@ -3,22 +3,10 @@
 
 use compare_header::numbers::number;
 use compare_header::{compared, mends, Coverage};
-use generator::headers::samples;
-use generator::large::plain;
+use generator::drafts::samples;
 
 /// Provider IDs that the samples have, and others.
 const IDS: [&[u8]; 4] = [b"p1", b"p", b"", b"\xFF"];
-
-/// The sample headers, and two with keys whose IDs begin one another.
-fn drafts() -> impl Iterator<Item = Vec<u8>> {
-    let several = |version| {
-        let key = |id: &[u8]| [id.to_vec(), b"p".to_vec(), id.repeat(2)];
-        let mut fields = plain(version);
-        fields.keys = [&b"p"[..], b"p1", b"", b"p1"].map(key).into();
-        fields.image().bytes
-    };
-    samples().into_iter().chain([1, 2].map(several))
-}
 
 /// All that is asked of one draft with bytes behind it; answers how often.
 fn every_mend(coverage: &mut Coverage, draft: &[u8], rooms: &[usize]) -> u64 {
@@ -45,7 +33,7 @@ fn every_mend(coverage: &mut Coverage, draft: &[u8], rooms: &[usize]) -> u64 {
 #[test]
 fn every_cut() {
     let (mut coverage, mut count) = (Coverage::default(), 0);
-    for draft in drafts() {
+    for draft in samples() {
         for cut in 0..draft.len() {
             count += every_mend(&mut coverage, &draft[..cut], &[0]);
         }
@@ -60,7 +48,7 @@ fn every_cut() {
 #[test]
 fn every_byte() {
     let (mut coverage, mut count) = (Coverage::default(), 0);
-    for mut draft in drafts() {
+    for mut draft in samples() {
         for at in 0..draft.len() {
             let right = draft[at];
             for byte in 0..=0xFF {

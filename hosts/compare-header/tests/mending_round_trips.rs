@@ -2,10 +2,9 @@
 //! dropped or added, and what was added can be dropped again.
 
 use bafirolen::{Mode, Which};
-use compare_header::expected::parts_are;
-use compare_header::numbers::{number, numbers, Answer};
+use compare_header::numbers::{number, Answer};
 use compare_header::scale::seeds;
-use compare_header::{compared, mends, reads, request};
+use compare_header::{compared, expected, mends, request};
 use generator::drafts::{behind, sound_fields};
 use generator::fields::{near, Fields};
 use generator::random::Random;
@@ -14,26 +13,8 @@ use generator::Key;
 
 /// The tolerant reader of either version gives these fields, and this tail.
 fn reads_as(seed: u64, buffer: &[u8], fields: &Fields, tail: usize) {
-    let (pairs, keys) = (
-        vec![3; 4 * fields.pairs.len()],
-        vec![5; 6 * fields.keys.len()],
-    );
     let asked = request(Which::Either, Mode::Tolerant, None);
-    let (answer, tables) = reads::read_header_body(buffer, 0, asked, &pairs, &keys);
-    let body = answer.unwrap_or_else(|refusal| panic!("seed {seed}: {refusal}"));
-    let stored = numbers(&fields.numbers().into());
-    assert_eq!((body.numbers, body.tail), (stored, tail as u64));
-    assert_eq!(body.key_count, fields.keys.len(), "seed {seed}");
-    let id = body.message_id.within(buffer);
-    let data = body.suite_data.within(buffer);
-    assert_eq!(
-        (id, data),
-        (Some(&fields.id[..]), Some(&fields.suite_data[..]))
-    );
-    let parts = fields.pairs.iter().flat_map(|pair| [&pair.0[..], &pair.1]);
-    parts_are(seed, buffer, &tables.pairs, parts);
-    let parts = fields.keys.iter().flatten().map(|part| &part[..]);
-    parts_are(seed, buffer, &tables.keys, parts);
+    expected::reads_as(seed, buffer, asked, fields, tail);
 }
 
 /// A draft with so many bytes behind it.

@@ -1,11 +1,12 @@
-//! Drafts to be mended, sound and damaged: header bodies that begin with the
-//! first byte of a buffer, whose provider IDs are drawn from a few.
+//! Drafts to be mended or reissued, sound and damaged: header bodies, whose
+//! provider IDs are drawn from a few.
 
 use crate::body_cases::{reserved, spoil};
 use crate::fields::{back, fields, front, near, Fields};
+use crate::headers;
 use crate::image::Form;
 use crate::key_cases::{self, KeySection};
-use crate::large::LONGEST;
+use crate::large::{plain, LONGEST};
 use crate::random::Random;
 use crate::sections::{self, Verdict};
 use crate::surroundings::flip_bits;
@@ -23,6 +24,17 @@ pub struct Drafted {
     pub cut: bool,
     /// What reading it decides.
     pub read: Expected,
+}
+
+/// The sample headers, and two with keys whose IDs begin one another.
+pub fn samples() -> impl Iterator<Item = Vec<u8>> {
+    let several = |version| {
+        let key = |id: &[u8]| [id.to_vec(), b"p".to_vec(), id.repeat(2)];
+        let mut fields = plain(version);
+        fields.keys = [&b"p"[..], b"p1", b"", b"p1"].map(key).into();
+        fields.image().bytes
+    };
+    headers::samples().into_iter().chain([1, 2].map(several))
 }
 
 /// Two of three are sound.

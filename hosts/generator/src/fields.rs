@@ -2,6 +2,7 @@
 
 use crate::image::{self, Form, Image};
 use crate::random::Random;
+use crate::rows::Added;
 use crate::texts::{text, text_of};
 use crate::{Key, Pair};
 
@@ -75,6 +76,20 @@ impl Fields {
         image.image(&image::keys(&self.keys));
         image.image(&back(self, [0; 4]));
         image
+    }
+
+    /// What these fields of version 1 become as a body of version 2.
+    pub fn reissued(&self, added: Added) -> Fields {
+        Fields {
+            version: 2,
+            message_type: 0,
+            suite: added.suite,
+            id: added.id.to_vec(),
+            iv_length: 0,
+            form: Form::Today.mark(),
+            suite_data: added.suite_data.to_vec(),
+            ..self.clone()
+        }
     }
 }
 

@@ -31,6 +31,7 @@ pub mod only_cases;
 pub mod policies;
 pub mod policy_cases;
 pub mod random;
+pub mod reissue_cases;
 pub mod rows;
 pub mod section_cases;
 pub mod section_ends;

@@ -1,7 +1,8 @@
 //! Equal seeds give equal requests; different ones, nearly always, others.
 
 use generator::{auth_cases, body_cases, body_write_cases, frame_cases, frame_write_cases};
-use generator::{key_cases, mending_cases, only_cases, policy_cases, section_cases, write_cases};
+use generator::{key_cases, mending_cases, only_cases, policy_cases, reissue_cases};
+use generator::{section_cases, write_cases};
 use std::collections::HashSet;
 use std::fmt::Debug;
 
@@ -37,6 +38,7 @@ fn seeds_determine_requests() {
     determined("only_case", only_cases::only_case);
     determined("drop_case", mending_cases::drop_case);
     determined("add_case", mending_cases::add_case);
+    determined("reissue_case", reissue_cases::reissue_case);
     determined("read_case", policy_cases::read_case);
     determined("write_case", policy_cases::write_case);
 }

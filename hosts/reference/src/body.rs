@@ -98,28 +98,31 @@ pub fn read_header_body_under_policy(
     pairs: &mut [u32],
     keys: &mut [u32],
 ) -> Result<Body, Refusal> {
-    read(message, start, request, Some((pairs, keys)))
+    let walked = walk(message, start, request)?;
+    // The tables come last, so that a short one never hides a bad header.
+    if !walked.pairs.fits(pairs) {
+        return Err(Refusal::of(PAIR_TABLE));
+    }
+    if !walked.keys.fits(keys) {
+        return Err(Refusal::of(KEY_TABLE));
+    }
+    walked.pairs.fill(message, pairs);
+    walked.keys.fill(message, keys);
+    Ok(walked.body)
 }
 
-/// Reads a header body without tables: all of its tests but 22 and 23.
-pub(crate) fn read_without_tables(
-    message: &[u8],
-    start: u64,
-    request: Request,
-) -> Result<Body, Refusal> {
-    read(message, start, request, None)
+/// A body that passed every test but those of the tables, and its sections.
+pub(crate) struct Walked {
+    pub body: Body,
+    pub pairs: context::Section,
+    pub keys: keys::Section,
 }
 
-/// 1; 2, 3; 4; version 1: 2, 5; 2, 6; 7; 39; 2 at the ID; the context's but 22;
-/// the keys' but 23; 2, 17; version 1: 2, 18, 2, 19; 2 at the frame length;
-/// version 2: 2 at the suite data; 20; of the tables 22; 23.
+/// All tests of a body but 22 and 23, in order: 1; 2, 3; 4; version 1: 2, 5;
+/// 2, 6; 7; 39; 2 at the ID; the context's; the keys'; 2, 17; version 1: 2, 18,
+/// 2, 19; 2 at the frame length; version 2: 2 at the suite data; 20.
 #[inline]
-fn read(
-    message: &[u8],
-    start: u64,
-    request: Request,
-    tables: Option<(&mut [u32], &mut [u32])>,
-) -> Result<Body, Refusal> {
+pub(crate) fn walk(message: &[u8], start: u64, request: Request) -> Result<Walked, Refusal> {
     test_sizes(message, start)?;
     let (version, at) = read_version(message, start, request.which)?;
     let (message_type, at) = match version {
@@ -147,18 +150,7 @@ fn read(
     if request.which == Which::Either && !frame_fits(content_type, frame_length) {
         return Err(Refusal::of(FRAME_LENGTH));
     }
-    // The tables come last, so that a short one never hides a bad header.
-    if let Some((pairs, keys)) = tables {
-        if !pair_section.fits(pairs) {
-            return Err(Refusal::of(PAIR_TABLE));
-        }
-        if !key_section.fits(keys) {
-            return Err(Refusal::of(KEY_TABLE));
-        }
-        pair_section.fill(message, pairs);
-        key_section.fill(message, keys);
-    }
-    Ok(Body {
+    let body = Body {
         version,
         message_type,
         suite: suite.number,
@@ -171,6 +163,11 @@ fn read(
         form: if pair_section.old { OLD } else { TODAY },
         suite_data,
         tail,
+    };
+    Ok(Walked {
+        body,
+        pairs: pair_section,
+        keys: key_section,
     })
 }
 

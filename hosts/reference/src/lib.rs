@@ -3,8 +3,9 @@
 //!
 //! Readers hand out places in the lent message and fill lent tables of
 //! 32-bit numbers; writers fill a lent output from its first byte; a draft is
-//! mended in the buffer that it stands in. An operation that refuses changes
-//! nothing it was lent: each one first tests everything, then fills.
+//! mended in the buffer that it stands in, or reissued into an output. An
+//! operation that refuses changes nothing it was lent: each one first tests
+//! everything, then fills.
 //!
 //! Numbers that are fields (version, suite and so on) are `u32` throughout,
 //! so that a caller can hand in one wider than its stored form; it is refused
@@ -27,6 +28,7 @@ pub mod mending;
 pub mod only_authenticated;
 pub mod policy;
 pub mod refusal;
+pub mod reissuing;
 pub mod seen;
 pub mod suites;
 pub mod tables;
@@ -50,5 +52,6 @@ pub use mending::{add_encrypted_data_key, drop_encrypted_data_keys};
 pub use only_authenticated::write_only_authenticated;
 pub use policy::Policy;
 pub use refusal::Refusal;
+pub use reissuing::{reissue_header_body, reissued_header_body_len, Reissue};
 pub use suites::{lookup, Suite, SUITES};
 pub use utf8::is_utf8;

@@ -4,7 +4,7 @@
 //! The buffer may be longer than the draft. What stands behind the draft, the
 //! old one or the new one, whichever ends later, is never touched.
 
-use crate::body::{read_without_tables, Request, Which};
+use crate::body::{walk, Request, Which};
 use crate::context::Mode;
 use crate::keys::places;
 use crate::leaves::{part, read_u16, Place, ENTRY_MAX};
@@ -32,7 +32,7 @@ struct Read {
 
 /// What reading a draft refuses.
 fn read(draft: &[u8]) -> Result<Read, Refusal> {
-    let body = read_without_tables(draft, 0, READ)?;
+    let body = walk(draft, 0, READ)?.body;
     // The context section says how many bytes follow its length.
     let (length, context) = read_u16(draft, body.id.end())?;
     let count_at = context + u64::from(length);

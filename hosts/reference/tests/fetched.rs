@@ -82,6 +82,45 @@ fn headers_with_one_byte_replaced() {
     held.report("fronts of headers with one byte replaced");
 }
 
+/// A suite, the lengths of ID and suite data, and that of the output.
+const REISSUES: [(u32, usize, usize, usize); 5] = [
+    (0x0478, 32, 32, 200),
+    (0x0578, 32, 32, 99),
+    (0x0378, 32, 32, 200),
+    (0x0578, 16, 32, 200),
+    (0x0478, 32, 0, 0),
+];
+
+/// Of version 1 all is read before what is added is looked at, of version 2
+/// nothing but the version.
+#[test]
+fn drafts_reissued() {
+    let mut held = Held::default();
+    for (draft, most) in samples().into_iter().zip(ROUNDS) {
+        let most = if draft[0] == 1 { most } else { 1 };
+        for (suite, id, data, room) in REISSUES {
+            let reissue = Reissue {
+                suite,
+                id: &[0x11; 32][..id],
+                suite_data: &[0x22; 32][..data],
+            };
+            let ask = |front: &[u8], start| {
+                let mut out = vec![0xEE; room];
+                let answer = reissue_header_body(front, start, &reissue, &mut out);
+                (answer, out.into_iter().map(u32::from).collect())
+            };
+            for before in [0, 3] {
+                let message = [&vec![0xEE; before][..], &draft, b"rest"].concat();
+                let end = (before + draft.len()) as u64;
+                let taken = held.message(&message, |_| end, |front| ask(front, before as u64));
+                assert_eq!(taken, most, "{draft:02X?}");
+            }
+            assert_eq!(held.message(&draft, |_| 0, |front| ask(front, 500)), 1);
+        }
+    }
+    held.report("fronts of drafts reissued");
+}
+
 /// Context sections, and how many rounds each takes.
 const CONTEXTS: [(&str, u64); 13] = [
     ("00 00 EE", 1),

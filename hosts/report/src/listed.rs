@@ -5,12 +5,13 @@ use std::collections::BTreeSet;
 /// The refusals that document 01, or the change request that adds it, lists
 /// for each operation, in its order of tests; each stands where it comes first,
 /// such as 2 and 32, which are tested of each part in turn, and 34 in reading,
-/// 19 and 30 in writing, which are tested of each frame. 16 alone is listed
-/// twice, of a key that is added: once of the draft's keys, and once of its own
-/// provider ID.
+/// 19 and 30 in writing, which are tested of each frame. Three are listed twice:
+/// 16 of a key that is added, once of the draft's keys, and once of its own
+/// provider ID; 6 and 7 of a draft that is reissued, once of its own suite, and
+/// once of the new one.
 ///
 /// Where version 2 alone is asked for, no policy forbids what is read.
-pub const LISTED: [(&str, &[u32]); 31] = [
+pub const LISTED: [(&str, &[u32]); 33] = [
     (
         "read section tolerant",
         &[1, 2, 32, 8, 9, 10, 11, 12, 14, 22],
@@ -120,6 +121,8 @@ pub const LISTED: [(&str, &[u32]); 31] = [
             1, 2, 3, 5, 6, 7, 32, 8, 9, 10, 11, 12, 14, 38, 16, 17, 18, 19, 20, 16, 27, 28,
         ],
     ),
+    ("reissue body", REISSUE_BODY),
+    ("reissued length", but_28(REISSUE_BODY)),
     ("write listing", &[28]),
 ];
 
@@ -129,6 +132,10 @@ const WRITE_BODY: &[u32] = &[
 
 const WRITE_BODY_UNDER_POLICY: &[u32] = &[
     3, 5, 6, 7, 39, 24, 26, 27, 10, 11, 12, 13, 33, 38, 16, 17, 19, 25, 20, 28,
+];
+
+const REISSUE_BODY: &[u32] = &[
+    1, 2, 3, 4, 5, 6, 7, 32, 8, 9, 10, 11, 12, 14, 38, 16, 17, 18, 19, 20, 6, 7, 24, 25, 28,
 ];
 
 const WRITE_FRAMES: &[u32] = &[20, 26, 36, 27, 19, 30, 37, 35, 28];

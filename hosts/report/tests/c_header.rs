@@ -3,10 +3,11 @@
 
 use report::{assert_said, listed, BODY_READERS, BODY_READERS_UNDER_POLICY};
 
-const HEADERS: [&str; 3] = [
+const HEADERS: [&str; 4] = [
     include_str!("../../../include/bafirolen.h"),
     include_str!("../../../include/bafirolen_policy.h"),
     include_str!("../../../include/bafirolen_drafts.h"),
+    include_str!("../../../include/bafirolen_reissue.h"),
 ];
 const REFUSALS: &str = include_str!("../../../include/bafirolen_refusals.h");
 
@@ -26,7 +27,7 @@ fn the_numbers_of_refusals() {
 }
 
 /// Each function that refuses, and the operations that its list is of.
-const FUNCTIONS: [(&str, &[&str]); 22] = [
+const FUNCTIONS: [(&str, &[&str]); 24] = [
     ("bafirolen_header_number", &["read body tolerant"]),
     ("bafirolen_read_header_body", &BODY_READERS),
     (
@@ -67,6 +68,8 @@ const FUNCTIONS: [(&str, &[&str]); 22] = [
     ),
     ("bafirolen_drop_encrypted_data_keys", &["drop keys"]),
     ("bafirolen_add_encrypted_data_key", &["add key"]),
+    ("bafirolen_reissue_header_body", &["reissue body"]),
+    ("bafirolen_reissued_header_body_len", &["reissued length"]),
 ];
 
 /// What the function answers of an operation: a copy may find no room, and the

@@ -8,7 +8,7 @@ const README: &str = include_str!("../../../README.md");
 
 /// A column of the table, and the operations that it is of; those under a
 /// policy are in [`UNDER_POLICY`].
-const COLUMNS: [(&str, &[&str]); 17] = [
+const COLUMNS: [(&str, &[&str]); 19] = [
     ("context", &["read section tolerant", "read section strict"]),
     ("keys", &["read keys"]),
     ("body", &BODY_READERS),
@@ -25,6 +25,8 @@ const COLUMNS: [(&str, &[&str]); 17] = [
     ("frames length", &["frames length"]),
     ("drop keys", &["drop keys"]),
     ("add key", &["add key"]),
+    ("reissue", &["reissue body"]),
+    ("reissued length", &["reissued length"]),
     ("listing", &["write listing"]),
 ];
 

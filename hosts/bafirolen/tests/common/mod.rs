@@ -1,10 +1,10 @@
-//! A message of which every byte is known, others like it, and a source that
-//! gives a message in pieces.
+//! A message of which every byte is known, others like it, drafts and what they
+//! are reissued as, and a source that gives a message in pieces.
 
 // Not every test uses all of it.
 #![allow(dead_code)]
 
-use bafirolen::Key;
+use bafirolen::{Key, Reissue};
 use std::convert::Infallible;
 
 /// Header H of document 01.
@@ -36,6 +36,37 @@ pub fn key_section(keys: &[Key]) -> Vec<u8> {
         }
     }
     section
+}
+
+/// What a draft of version 1 hands on to the body that it is reissued as.
+#[derive(Clone, Copy)]
+pub struct HandedOn<'a> {
+    pub context: &'a [u8],
+    pub keys: &'a [u8],
+    pub content_type: u8,
+    pub frame_length: u32,
+}
+
+impl HandedOn<'_> {
+    /// That draft, with H's front.
+    pub fn draft(&self) -> Vec<u8> {
+        let back = [&[self.content_type, 0, 0, 0, 0, 12][..], &self.length()].concat();
+        [&H[..20], self.context, self.keys, &back].concat()
+    }
+
+    /// That body. An empty context in its old form is written as today.
+    pub fn reissued(&self, reissue: &Reissue) -> Vec<u8> {
+        let suite = (reissue.suite as u16).to_be_bytes();
+        let front = [&[2], &suite[..], reissue.message_id].concat();
+        let old = self.context == [0, 2, 0, 0];
+        let context = if old { &[0, 0] } else { self.context };
+        let back = [&[self.content_type][..], &self.length(), reissue.suite_data].concat();
+        [&front, context, self.keys, &back].concat()
+    }
+
+    fn length(&self) -> [u8; 4] {
+        self.frame_length.to_be_bytes()
+    }
 }
 
 /// Gives a message from a place on, in pieces of at most these lengths by turns.

@@ -5,9 +5,10 @@
 
 use bafirolen::{
     add_encrypted_data_key, drop_encrypted_data_keys, fetch, frames_len, header_body_len,
-    read_header_body, write_frames, write_header_body,
+    read_header_body, reissue_header_body, reissued_header_body_len, write_frames,
+    write_header_body,
 };
-use bafirolen::{Draft, Key, Refusal, Request};
+use bafirolen::{Draft, Key, Refusal, Reissue, Request};
 use core::convert::Infallible;
 
 /// How many pairs the header at the message's front has.
@@ -51,6 +52,19 @@ pub fn write_frames_front<'r>(
     let length = frames_len(frame_length, text, frames)?;
     let out = room.get_mut(..length).ok_or(Refusal::OutputTooShort)?;
     write_frames(frame_length, text, frames, out)?;
+    Ok(out)
+}
+
+/// Writes the draft at the front of a message in version 2 to the front of a room
+/// likewise.
+pub fn reissue_front<'r>(
+    message: &[u8],
+    reissue: &Reissue<'_>,
+    room: &'r mut [u8],
+) -> Result<&'r [u8], Refusal> {
+    let length = reissued_header_body_len(message, 0, reissue)?;
+    let out = room.get_mut(..length).ok_or(Refusal::OutputTooShort)?;
+    reissue_header_body(message, 0, reissue, out)?;
     Ok(out)
 }
 

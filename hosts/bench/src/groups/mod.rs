@@ -11,6 +11,7 @@ mod leaves;
 mod lengths;
 mod lists;
 mod policies;
+mod reissued;
 mod required;
 
 use crate::table::Table;
@@ -68,5 +69,10 @@ pub const GROUPS: &[Group] = &[
         "drafts",
         "drafts from which keys are dropped, and to which one is added",
         drafts::rows,
+    ),
+    (
+        "reissued",
+        "drafts of version 1 reissued as bodies of version 2",
+        reissued::rows,
     ),
 ];

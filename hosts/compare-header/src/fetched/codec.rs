@@ -6,7 +6,7 @@ use super::operations::*;
 use super::seen::Seen;
 use crate::both::{crossed, mode, which, Both};
 use crate::request;
-use generator::rows::{self, Codec, Lent, Place, Refused, Section, Written};
+use generator::rows::{self, Added, Codec, Lent, Place, Refused, Reissue, Section, Written};
 use std::cell::RefCell;
 
 /// Answers as [`Both`] does.
@@ -164,5 +164,16 @@ impl Codec for Fetching {
 
     fn write_record(&self, suite: u32, iv: &[u8], tag: &[u8], out: &mut [u8]) -> Written {
         Both.write_record(suite, iv, tag, out)
+    }
+}
+
+impl Reissue for Fetching {
+    fn reissue(&self, message: &[u8], start: u64, added: Added, out: &mut [u8]) -> Written {
+        self.feed("reissue", Reissued { added, out }, message, start);
+        Both.reissue(message, start, added, out)
+    }
+
+    fn reissued_len(&self, message: &[u8], start: u64, added: Added) -> Written {
+        Both.reissued_len(message, start, added)
     }
 }

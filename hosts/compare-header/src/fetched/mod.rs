@@ -3,8 +3,8 @@
 //! promised of it.
 //!
 //! Each run is ours and the separate implementation's at once, by the functions
-//! of `reads`, `under_policy` and `writes`, which hold the two against each
-//! other. So what is promised is held against both.
+//! of `reads`, `under_policy`, `reissues` and `writes`, which hold the two
+//! against each other. So what is promised is held against both.
 
 mod codec;
 mod feeding;
@@ -17,6 +17,7 @@ pub use codec::Fetching;
 pub use feeding::{Fed, Feeder, BY_ONES};
 pub use operations::{
     Asked, Body, BodyUnderPolicy, Context, Find, Frames, Host, Keys, OnlyAuthenticated, Record,
+    Reissued,
 };
 pub use promised::{Promised, Run};
 pub use seen::Seen;

@@ -6,9 +6,10 @@ use super::rounds;
 use crate::crossing;
 use crate::numbers::{self, answered, Answer};
 use crate::reads::{self, Tables};
-use crate::{under_policy, writes};
+use crate::{reissues, under_policy, writes};
 use bafirolen::{Mode, Place, Request};
 use bafirolen_sys::BafirolenBody;
+use generator::rows::Added;
 use std::fmt::Debug;
 
 /// A request but for the message and the start.
@@ -163,6 +164,32 @@ impl Asked for BodyUnderPolicy<'_> {
             tail: (told.0.number == 0).then_some(told.0.tail),
             told,
         }
+    }
+
+    fn most_rounds(&self, message: &[u8], start: u64) -> u64 {
+        rounds::of_body(message, start)
+    }
+}
+
+/// A draft that is reissued, and measured before.
+#[derive(Debug)]
+pub struct Reissued<'a> {
+    pub added: Added<'a>,
+    pub out: &'a [u8],
+}
+
+impl Asked for Reissued<'_> {
+    type Told = ([Answer<usize>; 2], Vec<u8>);
+
+    fn ask(&self, front: &[u8], start: u64) -> Run<Self::Told> {
+        let length = reissues::reissued_len(front, start, self.added);
+        let (answer, out) = reissues::reissue_alone(front, start, self.added, self.out);
+        // 42 bytes less than the body, or 40 where the context has its old form.
+        let tail = |length: &usize| match reference::read_u32(front, start + 20) {
+            Ok((0x0002_0000, _)) => start + *length as u64 - 40,
+            _ => start + *length as u64 - 42,
+        };
+        run(&answer, tail, ([length, answer], out))
     }
 
     fn most_rounds(&self, message: &[u8], start: u64) -> u64 {

@@ -40,6 +40,11 @@ pub const NAMED: &[(&str, &str, &str)] = &[
         "a place is one of a frame's",
     ),
     ("27 added part", "27 draft's keys", "one test"),
+    (
+        "6 added suite",
+        "7 added suite",
+        "an unknown suite is of no version",
+    ),
 ];
 
 /// The same of faults that others stand between.
@@ -95,7 +100,7 @@ pub fn apart(first: &str, second: &str) -> Option<&'static str> {
         (2, 2) if first.strip_suffix(" length") == Some(second) => Some(LENGTH),
         (2, 2) if second == "2 whole section" => Some(LENGTH),
         (2, 2) => None,
-        // The required table is no part of the message, nor is an added key.
+        // The required table is no part of the message, nor is what is added.
         (2, 31) => None,
         (2, _) if second.contains(" added ") => None,
         (2, _) => Some(CUT),

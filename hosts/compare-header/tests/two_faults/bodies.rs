@@ -1,6 +1,6 @@
 //! Reading a body: either version, and one only; tolerant and strict.
 
-use super::every_pair::{number_of, read, Listed, Names};
+use super::every_pair::{number_of, read, Fault, Listed, Names};
 use super::sections::{self, key_table, pair_table, too_large, Faults};
 use bafirolen::{Mode, Which};
 use compare_header::numbers::answered;
@@ -71,10 +71,17 @@ fn back(which: Which, version: u32) -> Faults {
         list.push(read("2 suite data", |d| d.cut(Area::Back, 2)));
     }
     if which == Which::Either {
-        list.push(read("20 framed", |d| d.content(2, 0)));
-        list.push(read("20 non-framed", |d| d.content(1, 1)));
+        list.extend(frame_length());
     }
     list
+}
+
+/// A frame length that the content type doesn't have.
+pub fn frame_length() -> [Fault<ReadDraft>; 2] {
+    [
+        read("20 framed", |d| d.content(2, 0)),
+        read("20 non-framed", |d| d.content(1, 1)),
+    ]
 }
 
 pub fn body((operation, which, mode, version): Reader) -> Listed<ReadDraft> {

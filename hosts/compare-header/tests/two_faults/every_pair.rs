@@ -3,7 +3,7 @@
 use super::apart::apart;
 use compare_header::{compared, Coverage};
 use generator::faults::{Draft, FrameDraft, FrameWriteDraft};
-use generator::faults::{MendDraft, ReadDraft, RecordDraft, WriteDraft};
+use generator::faults::{MendDraft, ReadDraft, RecordDraft, ReissueDraft, WriteDraft};
 use std::collections::BTreeSet;
 
 /// A fault: its name, which begins with the refusal's number, and how it is
@@ -53,10 +53,18 @@ pub fn mend(name: &str, plant: impl Fn(&mut MendDraft) + 'static) -> Fault<MendD
     fault(name, plant)
 }
 
-/// A fault of a message, where the message is a draft.
-pub fn drafted(read: Fault<ReadDraft>) -> Fault<MendDraft> {
+/// A fault of what is lent to reissue a draft.
+pub fn reissue(name: &str, plant: impl Fn(&mut ReissueDraft) + 'static) -> Fault<ReissueDraft> {
+    fault(name, plant)
+}
+
+/// A fault of a message, where the message is a part of another request.
+pub fn within<D: 'static>(
+    read: Fault<ReadDraft>,
+    part: impl Fn(&mut D) -> &mut ReadDraft + 'static,
+) -> Fault<D> {
     let plant = read.plant;
-    mend(&read.name, move |d| plant(&mut d.read))
+    fault(&read.name, move |d| plant(part(d)))
 }
 
 /// The names of a list, in the order of tests.

@@ -6,8 +6,8 @@
 //!
 //! A new refusal is a row at its place in a table, and a number in the
 //! operation's list of `report`, which the tables are held against, but for
-//! copying, what a host is told and bodies of the old form, which are made from
-//! others.
+//! copying, what a host is told and bodies of the old form, also where they are
+//! reissued, which are made from others.
 
 mod apart;
 mod bodies;
@@ -17,6 +17,7 @@ mod frames;
 mod mending;
 mod policies;
 mod reads;
+mod reissuing;
 mod sections;
 mod writes;
 
@@ -31,6 +32,7 @@ fn operations() -> Vec<Names> {
     all.extend(writes::lists());
     all.extend(frame_writes::lists());
     all.extend(mending::lists());
+    all.extend(reissuing::lists());
     all
 }
 

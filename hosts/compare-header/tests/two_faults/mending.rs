@@ -2,7 +2,7 @@
 //! without tables and a maximum, then what is asked for or added.
 
 use super::bodies::{self, Reader, READERS};
-use super::every_pair::{drafted, mend, number_of, Fault, Listed, Names};
+use super::every_pair::{mend, number_of, within, Fault, Listed, Names};
 use compare_header::both::Both;
 use compare_header::Coverage;
 use generator::faults::MendDraft;
@@ -14,6 +14,7 @@ fn read(reader: Reader) -> Vec<Fault<MendDraft>> {
     let mut list = vec![mend("1 buffer", |d| d.too_long = true)];
     let without = |fault: &Fault<_>| ![1, 15, 22, 23].contains(&number_of(&fault.name));
     let body = bodies::body(reader).list.into_iter();
+    let drafted = |fault| within(fault, |d: &mut MendDraft| &mut d.read);
     list.extend(body.filter(without).map(drafted));
     list
 }

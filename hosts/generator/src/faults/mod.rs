@@ -11,6 +11,7 @@ mod frames;
 mod mending;
 mod reading;
 mod record;
+mod reissuing;
 mod writing;
 
 pub use frame_writes::FrameWriteDraft;
@@ -18,6 +19,7 @@ pub use frames::FrameDraft;
 pub use mending::MendDraft;
 pub use reading::{Area, ReadDraft, REQUIRED_TEXT};
 pub use record::RecordDraft;
+pub use reissuing::ReissueDraft;
 pub use writing::WriteDraft;
 
 /// A request with or without faults.

@@ -222,7 +222,7 @@ impl ReadDraft {
         self.without_pairs = true;
     }
 
-    fn pairs(&self) -> &[Pair] {
+    pub(super) fn pairs(&self) -> &[Pair] {
         match self.without_pairs {
             true => &[],
             false => &self.fields.pairs,

@@ -4,7 +4,7 @@ use super::mending::draft;
 use super::{Mend, Refused};
 use crate::large::zeros;
 
-const GREATEST: usize = u32::MAX as usize;
+pub(super) const GREATEST: usize = u32::MAX as usize;
 
 /// How many answers these rows give.
 pub const ANSWERS: u64 = 2 * (2 + 3) + 11;
@@ -48,13 +48,14 @@ fn short(mend: &impl Mend, buffer: &mut [u8]) -> u64 {
 /// Where a long draft ends: seven bytes before the end of its buffer.
 const TAIL: usize = GREATEST - 7;
 
-/// 65,534 keys whose IDs and infos are empty, in a draft up to `TAIL`. Of their
-/// ciphertexts, which are all 00, 65,530 are as long as they can be.
-fn fill(buffer: &mut [u8]) {
+/// 65,534 keys whose IDs and infos are empty, in a draft up to `tail`, which is
+/// near the greatest length. Of their ciphertexts, which are all 00, 65,530 are
+/// as long as they can be.
+pub(super) fn fill(buffer: &mut [u8], tail: usize) {
     let empty = draft(1, "00 00", "FFFE");
     let (front, back) = empty.split_at(24);
     buffer[..24].copy_from_slice(front);
-    let mut rest = TAIL - empty.len() - 6 * 65_534;
+    let mut rest = tail - empty.len() - 6 * 65_534;
     let mut at = 24;
     for _ in 0..65_534 {
         let length = rest.min(65_535);
@@ -62,14 +63,14 @@ fn fill(buffer: &mut [u8]) {
         at += 6 + length;
         rest -= length;
     }
-    assert_eq!((rest, at + back.len()), (0, TAIL));
-    buffer[at..TAIL].copy_from_slice(back);
+    assert_eq!((rest, at + back.len()), (0, tail));
+    buffer[at..tail].copy_from_slice(back);
 }
 
 /// A draft that is nearly as long as its buffer: sums of 32 bits would pass
 /// their end. Nothing but what stands behind the keys is moved here.
 fn long(mend: &impl Mend, buffer: &mut [u8]) -> u64 {
-    fill(buffer);
+    fill(buffer, TAIL);
     let (end, last) = (GREATEST as u64, TAIL as u64);
     let nothing = [&b""[..]; 3];
     let seven = [&b"a"[..], b"", b""];

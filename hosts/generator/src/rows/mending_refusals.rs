@@ -5,7 +5,7 @@ use super::mending::draft;
 use super::{Mend, Refused};
 
 /// Keys with the IDs "a" and "b", 18 bytes with their count.
-const KEYS: &str = "0002 000161 000131 0001AA  000162 0000 0000";
+pub(super) const KEYS: &str = "0002 000161 000131 0001AA  000162 0000 0000";
 
 /// Keys that would be refused by neither of 16 and 27, by one of them, and by
 /// both: `long` is two bytes longer than a part can be, and its first is no text.
@@ -43,7 +43,7 @@ fn refused(mend: &impl Mend, draft: &[u8], wanted: Refused) -> u64 {
 }
 
 /// Where each read ends, by version.
-const STOPS: [&[u64]; 2] = [
+pub(super) const STOPS: [&[u64]; 2] = [
     &[
         1, 2, 4, 20, 22, 24, 26, 27, 29, 30, 32, 33, 35, 36, 38, 40, 41, 45, 46, 50,
     ],
@@ -68,9 +68,9 @@ pub fn every_cut(mend: &impl Mend) -> u64 {
 }
 
 /// Version, place, byte and refusal.
-type Field = (u32, usize, u8, u32);
+pub(super) type Field = (u32, usize, u8, u32);
 
-const FIELDS: [Field; 27] = [
+pub(super) const FIELDS: [Field; 27] = [
     (1, 0, 0, 3),
     (1, 0, 3, 3),
     (1, 0, 2, 6),
@@ -114,7 +114,7 @@ pub fn fields(mend: &impl Mend) -> u64 {
 }
 
 /// Context sections.
-const CONTEXTS: [(&str, u32); 9] = [
+pub(super) const CONTEXTS: [(&str, u32); 9] = [
     ("00 02 00 01", 8),
     ("00 03 00 00 00", 9),
     ("00 08 00 01 00 02 C0 80 00 00", 10),

@@ -54,7 +54,7 @@ fn adds(mend: &impl Mend, version: u32, (before, key): (&[u8], [&[u8]; 3]), afte
 
 /// A key whose `part` has so many letters, and none of the others any; its three
 /// entries.
-fn long_key(part: usize, letters: usize) -> Vec<u8> {
+pub(super) fn long_key(part: usize, letters: usize) -> Vec<u8> {
     let mut bytes = Vec::new();
     for at in 0..3 {
         let count = if at == part { letters } else { 0 };
@@ -97,11 +97,11 @@ pub fn longest_parts(mend: &impl Mend) -> u64 {
     answers
 }
 
-const MOST: usize = 65_535;
+pub(super) const MOST: usize = 65_535;
 
 /// A key section of so many keys, with the ID "a" where this says so, otherwise
 /// with "b".
-fn many(count: usize, is_a: impl Fn(usize) -> bool) -> Vec<u8> {
+pub(super) fn many(count: usize, is_a: impl Fn(usize) -> bool) -> Vec<u8> {
     let (a, b) = (hex("000161 0000 0000"), hex("000162 000131 0002BBBB"));
     let mut bytes = (count as u16).to_be_bytes().to_vec();
     for at in 0..count {

@@ -28,6 +28,10 @@ pub mod policies;
 pub mod policy_faults;
 pub mod policy_writes;
 pub mod records;
+pub mod reissuing;
+pub mod reissuing_long;
+pub mod reissuing_refusals;
+pub mod reissuing_sizes;
 pub mod section_ends;
 pub mod section_writes;
 pub mod sections;
@@ -149,4 +153,19 @@ pub trait Mend {
     fn drop_keys(&self, draft: &mut [u8], provider_id: &[u8]) -> Written;
     /// Provider ID, provider info and ciphertext.
     fn add_key(&self, draft: &mut [u8], key: [&[u8]; 3]) -> Written;
+}
+
+/// What a draft of version 1 gets to become a body of version 2.
+#[derive(Clone, Copy, Debug)]
+pub struct Added<'a> {
+    pub suite: u32,
+    pub id: &'a [u8],
+    pub suite_data: &'a [u8],
+}
+
+/// What rows of drafts that are reissued are held against.
+pub trait Reissue {
+    fn reissue(&self, message: &[u8], start: u64, added: Added, out: &mut [u8]) -> Written;
+    /// What the body takes, without an output.
+    fn reissued_len(&self, message: &[u8], start: u64, added: Added) -> Written;
 }

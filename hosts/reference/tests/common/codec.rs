@@ -1,7 +1,8 @@
 //! The separate implementation, as the rows ask it.
 
 use super::{mode, refusal};
-use generator::rows::{Asked, Body, Codec, Lent, Mend, Place, Record, Refused, Section, Written};
+use generator::rows::{self, Added, Asked, Body, Codec, Lent, Mend, Place};
+use generator::rows::{Record, Refused, Section, Written};
 use reference::*;
 
 pub struct Reference;
@@ -195,5 +196,24 @@ impl Mend for Reference {
 
     fn add_key(&self, draft: &mut [u8], [id, info, ciphertext]: [&[u8]; 3]) -> Written {
         add_encrypted_data_key(draft, id, info, ciphertext).map_err(refusal)
+    }
+}
+
+/// What is added to a draft that is reissued.
+pub fn reissue(added: Added) -> Reissue {
+    Reissue {
+        suite: added.suite,
+        id: added.id,
+        suite_data: added.suite_data,
+    }
+}
+
+impl rows::Reissue for Reference {
+    fn reissue(&self, message: &[u8], start: u64, added: Added, out: &mut [u8]) -> Written {
+        reissue_header_body(message, start, &reissue(added), out).map_err(refusal)
+    }
+
+    fn reissued_len(&self, message: &[u8], start: u64, added: Added) -> Written {
+        reissued_header_body_len(message, start, &reissue(added)).map_err(refusal)
     }
 }

@@ -5,6 +5,7 @@ pub mod codec;
 pub mod fronts;
 pub mod plain;
 pub mod plain_mending;
+pub mod plain_reissuing;
 pub mod plain_writes;
 
 use reference::{Mode, Refusal};

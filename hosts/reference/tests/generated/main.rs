@@ -8,6 +8,7 @@ mod common;
 mod frames;
 mod mending;
 mod reads;
+mod reissuing;
 mod writes;
 
 use report::{Coverage, LISTED};
@@ -31,7 +32,8 @@ fn every_operation_on_generated_requests() {
         + writes::listings(&mut coverage)
         + mending::drops(&mut coverage)
         + mending::adds(&mut coverage)
-        + mending::too_long(&mut coverage);
+        + mending::too_long(&mut coverage)
+        + reissuing::reissues(&mut coverage);
     coverage.print();
     coverage.assert_complete(LISTED.map(|(operation, _)| operation));
     common::report("generated requests", compared);

@@ -17,7 +17,7 @@ use report::Coverage;
 
 /// The output begins with the image and keeps its bytes beyond; refused, it
 /// keeps them all. The second opinion's image is the same.
-fn output_is(
+pub fn output_is(
     seed: u64,
     answer: Result<u64, Refusal>,
     (before, after): (&[u8], &[u8]),
