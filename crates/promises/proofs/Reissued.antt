@@ -1,10 +1,10 @@
 -- Every call that reissues a draft keeps the promise, by its contract and the law of the definition. Assumes nothing.
 use Prim.Native.Nat.{ℕ, _+_, _*_, _≤_}
 use native.Mathlib.Omega.{arith}
-use native.Mathlib.Nat.{zero-add}
 use mathlib.Core.Path.{_≡_, sym, ap, _∙_}
-use mathlib.Core.List.{List}
-use lib.ListN.{length, drop}
+use mathlib.Core.List.{List, _++_}
+use lib.ListN.{length, take, drop}
+use lib.Seq.{take-at}
 use Rattle.format.specs.Read.{Answer, accepted, operation}
 use Rattle.format.specs.Serialize.{Bytes}
 use Rattle.format.specs.Fields.{today, HeaderBody, fields-of}
@@ -91,29 +91,34 @@ module _ (a : Reissue) (m : List ℕ) (s : ℕ) (before after : List ℕ) (r : W
               tells ∙ ap written-as was-told ∙ ap Written (sym long));
         }
 
-  -- what is at the front of the output is read
-  reads : (n : ℕ) (w : HasWritten a m s before after n) → length after ≤ 4294967295
-      → (pairs pairs′ keys keys′ : List ℕ) (x : HeaderBodyAnswer) → ReadsBody (operation (read-header-body either tolerant no-max (length pairs) (length keys)) after 0) pairs pairs′ keys keys′ x
-      → 4 * length (w .body .pairs) ≤ length pairs → 6 * length (w .body .keys) ≤ length keys
-      → (c : HeaderBody) × (x ≡ Accepted (body-code c) n) × Gives after c (reissued a (fields-of (w .body))) × (c .form ≡ today)
-      × (pairs′ ≡ pair-table-after (accepted c n) pairs) × (keys′ ≡ key-table-after (accepted c n) keys)
-  reads n w few pairs pairs′ keys keys′ x read hp hk =
-      let back = w .means .read-back after 0 (drop (length (reissued-image a (w .body))) before) few (w .output) in
-      let (c, is, gives, marked) = back .gives either by-either tolerant (length pairs) (length keys) hp hk in
-      let ends : 0 + length (reissued-image a (w .body)) ≡ n = zero-add _ ∙ sym (w .length-is) in
-      let so : operation (read-header-body either tolerant no-max (length pairs) (length keys)) after 0 ≡ accepted c n = is ∙ ap (accepted c) ends in (
-        c,
-        read .answer ∙ ap body-of so,
-        gives,
-        marked,
-        read .pairTable ∙ ap (λ (o : Answer HeaderBody). pair-table-after o pairs) so,
-        read .keyTable ∙ ap (λ (o : Answer HeaderBody). key-table-after o keys) so,
-      )
+-- the bytes written are the image
+written-bytes : (image before after : List ℕ) (n : ℕ) → n ≡ length image → after ≡ filled image before → take n after ≡ image
+written-bytes image before after n e f = ap (take n) f ∙ take-at image (drop (length image) before) n (sym e)
+
+-- and are read where they stand
+reads : (a : Reissue) (m : List ℕ) (s : ℕ) (before after : List ℕ) (n : ℕ) (w : HasWritten a m s before after n) (message : List ℕ) (start : ℕ) (rest : List ℕ)
+    → length message ≤ 4294967295 → drop start message ≡ take n after ++ rest
+    → (pairs pairs′ keys keys′ : List ℕ) → 4 * length (w .body .pairs) ≤ length pairs → 6 * length (w .body .keys) ≤ length keys
+    → (x : HeaderBodyAnswer) → ReadsBody (operation (read-header-body either tolerant no-max (length pairs) (length keys)) message start) pairs pairs′ keys keys′ x
+    → (c : HeaderBody) × (x ≡ Accepted (body-code c) (start + n)) × Gives message c (reissued a (fields-of (w .body))) × (c .form ≡ today)
+    × (pairs′ ≡ pair-table-after (accepted c (start + n)) pairs) × (keys′ ≡ key-table-after (accepted c (start + n)) keys)
+reads a m s before after n w message start rest few there pairs pairs′ keys keys′ hp hk x read =
+    let image = reissued-image a (w .body) in
+    let stands : drop start message ≡ image ++ rest = there ∙ ap (λ (l : List ℕ). l ++ rest) (written-bytes image before after n (w .length-is) (w .output)) in
+    let (c, is, gives, marked) = w .means .read-back message start rest few stands .gives either by-either tolerant (length pairs) (length keys) hp hk in
+    let so : operation (read-header-body either tolerant no-max (length pairs) (length keys)) message start ≡ accepted c (start + n) = is ∙ ap (λ k. accepted c (start + k)) (sym (w .length-is)) in (
+      c,
+      read .answer ∙ ap body-of so,
+      gives,
+      marked,
+      read .pairTable ∙ ap (λ (o : Answer HeaderBody). pair-table-after o pairs) so,
+      read .keyTable ∙ ap (λ (o : Answer HeaderBody). key-table-after o keys) so,
+    )
 
 pub reissued-promises : ReissuedPromises
 reissued-promises =
     record {
       every-reissue = λ a m s before after r hb call. promise a m s before after r call hb;
       every-size = λ a m s before after told r tells call. size a m s before after r call told tells;
-      read-back = λ a m s before after n hb call few pairs pairs′ keys keys′ x read w. reads a m s before after (Written n) call n w few pairs pairs′ keys keys′ x read;
+      read-back = λ a m s before after n call. reads a m s before after n;
     }

@@ -1,11 +1,11 @@
 -- Drafts reissued, of the code: what every call of `reissue_header_body` and of `reissued_header_body_len` answers and leaves in its output, and
 -- what a call of the body reader gives of that, by their contracts. Proved in proofs/Reissued. Assumes nothing.
-use Prim.Native.Nat.{ℕ, _*_, _≤_, _<_}
+use Prim.Native.Nat.{ℕ, _+_, _*_, _≤_, _<_}
 use mathlib.Core.Path.{_≡_}
 use mathlib.Core.Bool.{true}
 use mathlib.Core.List.{List, [], _∷_, _++_}
 use lib.Dec.{leb}
-use lib.ListN.{length}
+use lib.ListN.{length, take, drop}
 use Rattle.format.specs.Read.{accepted, operation}
 use Rattle.format.specs.Serialize.{Bytes}
 use Rattle.format.specs.Fields.{today, HeaderBody, fields-of}
@@ -69,10 +69,11 @@ pub record Told (before after : List ℕ) (told r : WriteAnswer) : Type 0 where
 pub record ReissuedPromises : Type 0 where
   pub every-reissue : (a : Reissue) (m : List ℕ) (s : ℕ) (before after : List ℕ) (r : WriteAnswer) → Bytes m → Reissues a m s before after r → ReissuePromise a m s before after r
   pub every-size : (a : Reissue) (m : List ℕ) (s : ℕ) (before after : List ℕ) (told r : WriteAnswer) → Tells a m s told → Reissues a m s before after r → Told before after told r
-  -- the output, read tolerantly in either version, without a maximum and with tables that hold the entries: the reader gives those fields and the length
-  -- written as its tail, and fills its tables
-  pub read-back : (a : Reissue) (m : List ℕ) (s : ℕ) (before after : List ℕ) (n : ℕ) → Bytes m → Reissues a m s before after (Written n) → length after ≤ 4294967295
-      → (pairs pairs′ keys keys′ : List ℕ) (x : HeaderBodyAnswer) → ReadsBody (operation (read-header-body either tolerant no-max (length pairs) (length keys)) after 0) pairs pairs′ keys keys′ x
-      → (w : HasWritten a m s before after n) → 4 * length (w .body .pairs) ≤ length pairs → 6 * length (w .body .keys) ≤ length keys
-      → (c : HeaderBody) × (x ≡ Accepted (body-code c) n) × Gives after c (reissued a (fields-of (w .body))) × (c .form ≡ today)
-      × (pairs′ ≡ pair-table-after (accepted c n) pairs) × (keys′ ≡ key-table-after (accepted c n) keys)
+  -- the bytes written, alone, as the output has them, or wherever they are put in a message of at most 4,294,967,295 bytes, read tolerantly in either
+  -- version, without a maximum and with tables that hold the entries: the reader gives those fields and their end, and fills its tables
+  pub read-back : (a : Reissue) (m : List ℕ) (s : ℕ) (before after : List ℕ) (n : ℕ) → Reissues a m s before after (Written n) → (w : HasWritten a m s before after n)
+      → (message : List ℕ) (start : ℕ) (rest : List ℕ) → length message ≤ 4294967295 → drop start message ≡ take n after ++ rest
+      → (pairs pairs′ keys keys′ : List ℕ) → 4 * length (w .body .pairs) ≤ length pairs → 6 * length (w .body .keys) ≤ length keys
+      → (x : HeaderBodyAnswer) → ReadsBody (operation (read-header-body either tolerant no-max (length pairs) (length keys)) message start) pairs pairs′ keys keys′ x
+      → (c : HeaderBody) × (x ≡ Accepted (body-code c) (start + n)) × Gives message c (reissued a (fields-of (w .body))) × (c .form ≡ today)
+      × (pairs′ ≡ pair-table-after (accepted c (start + n)) pairs) × (keys′ ≡ key-table-after (accepted c (start + n)) keys)

@@ -6,7 +6,7 @@ use wire::writing::write;
 use wire::writing::write_uint16;
 ghost use mathlib.Core.Path.{_≡_};
 ghost use mathlib.Core.List.{_++_};
-ghost use Prim.Native.Nat.{_+_, _-_, _≤_, _<_};
+ghost use Prim.Native.Nat.{_+_, _-_, _<_};
 ghost use lib.ListN.{length};
 ghost use Rattle.format.specs.Lent.{bytes-at};
 ghost use Rattle.wire.specs.Stored.{stored};
