@@ -10,8 +10,8 @@
  *     bytes or more never wants p or less.
  *   - If the whole is accepted, no call on fewer bytes wants one behind its tail.
  * This is proved of what reads a body, under a policy or none, a section, an authentication record or frames, of
- * bafirolen_find_value, of bafirolen_reissue_header_body and of bafirolen_write_only_authenticated, whose text belongs to the
- * request: it is the same in both calls, also where it is the message.
+ * bafirolen_find_value, of both functions of bafirolen_reissue.h, and of bafirolen_write_only_authenticated, whose text belongs to
+ * the request: it is the same in both calls, also where it is the message.
  *
  * THE LOOP. `held` is how many bytes of the message are in `buffer`, at first maybe none. `more` stands for a source, such as
  * read(2): it stores up to so many bytes and answers how many, 0 where no more will come, and less where it fails.

@@ -24,7 +24,7 @@ use Rattle.format.proofs.Messages.{refused-stays}
 use Rattle.cases.specs.Occurs.{Answers, listed-for, Occurs}
 use Rattle.cases.proofs.Answered.{answered, among, each-answered, one-apart}
 use Rattle.cases.proofs.Mendings.{of-drop, of-add}
-use Rattle.cases.proofs.Reissuings.{of-reissue}
+use Rattle.cases.proofs.Reissuings.{of-reissued, of-reissue}
 use Rattle.cases.proofs.Sizes.{size-said, size-calls, size-answers}
 use Rattle.cases.proofs.Calls.{number-of, calls, sections, far-and-short, section-answers, opening-bytes, is-v1, body-calls, body-answers, old-form, strict-section, strict-body, no-table, no-pair, odd-table, no-output, key-calls, key-answers, auth-said, auth-calls, auth-answers, frames-said, frames-calls, frames-answers, frames-size-said, but-27, frames-size-calls, frames-size-answers, many-frames}
 
@@ -122,6 +122,7 @@ occurs =
       of-only-authenticated = of-only-authenticated;
       of-drop = of-drop;
       of-add = of-add;
+      of-reissued = of-reissued;
       of-reissue = of-reissue;
       of-keys = λ k h. (at-most 1, 0, each-answered _ key-calls keys-refusals key-answers k h);
       of-body = λ policy which mode k h. (at-most 1, 4, 0, of-body policy which mode k h);

@@ -13,9 +13,9 @@ use Rattle.format.specs.Auth.{read-header-auth-tag}
 use Rattle.format.specs.Frames.{read-frames-into}
 use Rattle.format.specs.OnlyAuthenticated.{write-only-authenticated}
 use Rattle.format.specs.Mending.{drop-encrypted-data-keys, add-encrypted-data-key}
-use Rattle.format.specs.Reissuing.{Reissue, reissue-header-body}
+use Rattle.format.specs.Reissuing.{Reissue, reissued-header-body, reissue-header-body}
 use Rattle.format.specs.Lent.{BodyToWrite, size-of, writing-header-body-under, writing-frames}
-use Rattle.format.specs.Refusals.{context-refusals, find-refusals, only-authenticated-refusals, keys-refusals, body-refusals, drop-refusals, add-refusals, reissue-refusals, auth-refusals, frames-refusals}
+use Rattle.format.specs.Refusals.{context-refusals, find-refusals, only-authenticated-refusals, keys-refusals, body-refusals, drop-refusals, add-refusals, reissued-refusals, reissue-refusals, auth-refusals, frames-refusals}
 use Rattle.format.specs.Size.{size-refusals, frames-size-refusals}
 
 -- there is a message and a start of which the reader answers the refusal
@@ -36,6 +36,7 @@ pub record Occurs : Type 0 where
       → (text : List ℕ) × (required : List ℕ) × (room : ℕ) × Answers (write-only-authenticated text required room) k
   pub of-drop : (k : ℕ) → List·Memᴰ k drop-refusals → (id : List ℕ) × Answers (drop-encrypted-data-keys id) k
   pub of-add : (k : ℕ) → List·Memᴰ k add-refusals → (key : EncryptedDataKey) × (room : ℕ) × Answers (add-encrypted-data-key key room) k
+  pub of-reissued : (k : ℕ) → List·Memᴰ k reissued-refusals → (a : Reissue) × Answers (reissued-header-body a) k
   pub of-reissue : (k : ℕ) → List·Memᴰ k reissue-refusals → (a : Reissue) × (room : ℕ) × Answers (reissue-header-body a room) k
   pub of-keys : (k : ℕ) → List·Memᴰ k keys-refusals → (max : Max) × (room : ℕ) × Answers (read-encrypted-data-keys-section-into max room) k
   pub of-body : (policy : Policy) (which : Which) (mode : Mode) (k : ℕ) → List·Memᴰ k (listed-for policy which mode)

@@ -133,7 +133,7 @@ pub body-steady : (q : Request) → Steady (read-body q)
 unfolding read-body after-opening
 body-steady q = search (steady, opening-steady, mark-steady, section-steady, after-context-steady) depth 20
 
-reissued-steady : (a : Reissue) → Steady (reissued-header-body a)
+pub reissued-steady : (a : Reissue) → Steady (reissued-header-body a)
 unfolding reissued-header-body
 reissued-steady a = search (steady, body-steady) depth 20
 

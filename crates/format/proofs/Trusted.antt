@@ -14,7 +14,7 @@ use Rattle.format.proofs.Tests.{is-leb, is-nleb}
 use Rattle.format.proofs.Messages.{operation-here, operation-far, refused-is-no-accepted}
 use Rattle.format.proofs.Listed.{refusals}
 use Rattle.format.proofs.SteadyLaws.{Reaches, Grows, Steady}
-use Rattle.format.proofs.Steady.{section-into-steady, find-steady, only-authenticated-steady, keys-into-steady, body-steady, reissue-steady, auth-steady}
+use Rattle.format.proofs.Steady.{section-into-steady, find-steady, only-authenticated-steady, keys-into-steady, body-steady, reissued-steady, reissue-steady, auth-steady}
 use Rattle.format.proofs.SteadyFrames.{frames-into-steady}
 
 module _ {A : Type 0} where
@@ -124,5 +124,6 @@ trust =
       of-auth = λ suite. trusted (auth-steady suite) (refusals .of-auth suite);
       of-find = λ k. trusted (find-steady k) (refusals .of-find k);
       of-only-authenticated = λ text required room. trusted (only-authenticated-steady text required room) (refusals .of-only-authenticated text required room);
+      of-reissued = λ a. trusted (reissued-steady a) (refusals .of-reissued a);
       of-reissue = λ a room. trusted (reissue-steady a room) (refusals .of-reissue a room);
     }

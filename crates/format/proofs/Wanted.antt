@@ -200,6 +200,7 @@ nearness =
       of-only-authenticated = λ text required room. wants-within (omega arith) _ (only-authenticated-wants text required room);
       of-drop = λ id. wants-within (omega arith) _ (drop-wants id);
       of-add = λ k room. wants-within (omega arith) _ (add-wants k room);
+      of-reissued = λ a. wants-within (omega arith) _ (reissued-wants a);
       of-reissue = λ a room. wants-within (omega arith) _ (reissue-wants a room);
       of-keys = λ max room. wants-within (omega arith) _ (keys-into-wants max room);
       of-body = λ q. wants-within (omega arith) _ (body-wants q);

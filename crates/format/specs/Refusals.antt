@@ -152,6 +152,7 @@ pub record Nearness : Type 0 where
   pub of-only-authenticated : (text required : List ℕ) (room : ℕ) → WantsNear (write-only-authenticated text required room)
   pub of-drop : (id : List ℕ) → WantsNear (drop-encrypted-data-keys id)
   pub of-add : (k : EncryptedDataKey) (room : ℕ) → WantsNear (add-encrypted-data-key k room)
+  pub of-reissued : (a : Reissue) → WantsNear (reissued-header-body a)
   pub of-reissue : (a : Reissue) (room : ℕ) → WantsNear (reissue-header-body a room)
   pub of-keys : (max : Max) (room : ℕ) → WantsNear (read-encrypted-data-keys-section-into max room)
   pub of-body : (q : Request) → WantsNear (read-body q)

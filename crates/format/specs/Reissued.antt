@@ -62,7 +62,7 @@ pub record InOrder (a : Reissue) (m : List ℕ) (s : ℕ) : Type 0 where
   pub written : (room : ℕ) → operation (reissue-header-body a room) m s
       ≡ behind-reading (λ b. reissue-checks a b ++ (check 28 (leb (length (reissued-image a b)) room) ∷ [])) a (reading m s)
 
--- 'The other direction is refused; a version 2 draft gets 4': whatever follows the version's byte, and whatever is added
+-- 'The other direction is refused, because suite data would be lost'; 'a version 2 draft gets 4': whatever follows the version's byte, and whatever is added
 pub record OtherDirection (a : Reissue) (room : ℕ) (m : List ℕ) (s : ℕ) : Type 0 where
   pub by-its-byte : length m ≤ 4294967295 → stands-at 2 m s ≡ true → operation (reissue-header-body a room) m s ≡ refused 4 0
   pub of-a-draft : Bytes m → (b : HeaderBody) (t : ℕ) → operation read-draft m s ≡ accepted b t → b .version ≡ 2 → operation (reissue-header-body a room) m s ≡ refused 4 0

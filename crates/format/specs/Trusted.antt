@@ -10,7 +10,7 @@ use Rattle.format.specs.Body.{Request, read-body}
 use Rattle.format.specs.Auth.{read-header-auth-tag}
 use Rattle.format.specs.Frames.{read-frames-into}
 use Rattle.format.specs.OnlyAuthenticated.{write-only-authenticated}
-use Rattle.format.specs.Reissuing.{Reissue, reissue-header-body}
+use Rattle.format.specs.Reissuing.{Reissue, reissued-header-body, reissue-header-body}
 
 -- Two runs with equal start, tables and request: one on the first n bytes of a message, which ends in o, and one on its first n′ bytes, no fewer,
 -- which ends in o′. `shortage p` is the end in which a run says shortage at p.
@@ -47,4 +47,5 @@ pub record Trust : Type 0 where
   pub of-auth : (suite : ℕ) → Trustworthy (read-header-auth-tag suite)
   pub of-find : (k : List ℕ) → Trustworthy (find-value k)
   pub of-only-authenticated : (text required : List ℕ) (room : ℕ) → Trustworthy (write-only-authenticated text required room)
+  pub of-reissued : (a : Reissue) → Trustworthy (reissued-header-body a)
   pub of-reissue : (a : Reissue) (room : ℕ) → Trustworthy (reissue-header-body a room)

@@ -5,6 +5,7 @@ use mathlib.Core.Path.{_≡_, refl, sym, ap, _∙_}
 use mathlib.Core.List.{List}
 use lib.ListN.{length}
 use Rattle.format.specs.Read.{Reader, Answer, accepted, refused, operation}
+use Rattle.format.specs.Lent.{table-after}
 use Rattle.format.specs.Serialize.{Part}
 use Rattle.format.specs.Fields.{PairAt, EncryptedDataKeyAt}
 use Rattle.format.specs.Auth.{HeaderAuth}
@@ -22,7 +23,7 @@ use Rattle.frames.specs.Codes.{frames-of}
 use Rattle.frames.specs.declared.FramesAnswer.the-variants as frames
 use Rattle.auth.specs.Codes.{auth-of}
 use Rattle.auth.specs.declared.AuthRead.{AuthRead}
-use Rattle.checks.specs.Answers.{written-as}
+use Rattle.checks.specs.Answers.{written-as, whole}
 use Rattle.checks.specs.declared.WriteAnswer.the-variants as write
 use Rattle.promises.specs.Listed.{ByFirst, AuthByFirst, ListedPromises}
 
@@ -53,6 +54,15 @@ back-keys (refused k p) q e = let z : because k p ≡ q = cc in rw (← z) refl
 pub back-written : (o : Answer (List ℕ)) (q : Refusal) → written-as o ≡ write.Refused q → o ≡ refused (q .number) (q .position)
 back-written (accepted image t) q e = let z : _≡_ {A = ℕ} 0 1 = cc in absurd (omega arith)
 back-written (refused k p) q e = let z : because k p ≡ q = cc in rw (← z) refl
+
+-- what one that writes an image wrote, and that a refusal leaves what is lent
+pub image-of : (o : Answer (List ℕ)) (n : ℕ) → written-as o ≡ write.Written n → (image : List ℕ) × (t : ℕ) × (o ≡ accepted image t) × (n ≡ length image)
+image-of (accepted image t) n e = (image, t, refl, cc)
+image-of (refused k p) n e = let z : _≡_ {A = ℕ} 0 1 = cc in absurd (omega arith)
+
+pub kept : (o : Answer (List ℕ)) (q : Refusal) → written-as o ≡ write.Refused q → (before : List ℕ) → table-after whole o before ≡ before
+kept (accepted image t) q e before = let z : _≡_ {A = ℕ} 0 1 = cc in absurd (omega arith)
+kept (refused k p) q e before = refl
 
 pub back-frames : (o : Answer (List FrameAt)) (q : Refusal) → frames-of o ≡ frames.Refused q → o ≡ refused (q .number) (q .position)
 back-frames (accepted fs t) q e = let z : _≡_ {A = ℕ} 0 1 = cc in absurd (omega arith)

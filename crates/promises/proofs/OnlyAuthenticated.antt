@@ -1,29 +1,17 @@
 -- Every call of `write_only_authenticated` keeps the promise, by its contract and the law of the definition. Assumes nothing.
 use Prim.Native.Nat.{ℕ}
-use native.Mathlib.Omega.{arith}
-use mathlib.Core.Path.{_≡_, refl, sym, ap, _∙_}
+use mathlib.Core.Path.{_≡_, sym, ap, _∙_}
 use mathlib.Core.List.{List}
 use lib.ListN.{length}
-use Rattle.format.specs.Read.{Answer, accepted, refused, operation}
+use Rattle.format.specs.Read.{Answer, operation}
 use Rattle.format.specs.Serialize.{Bytes}
 use Rattle.format.specs.Lent.{filled, table-after}
 use Rattle.format.specs.OnlyAuthenticated.{write-only-authenticated}
 use Rattle.format.specs.Selection.{OnlyAuthenticatedLaw}
 use Rattle.format.proofs.Selection.{selection}
-use Rattle.wire.specs.declared.Refusal.{Refusal}
 use Rattle.checks.specs.Answers.{written-as, whole}
-use Rattle.checks.specs.declared.WriteAnswer.{WriteAnswer}
-use Rattle.checks.specs.declared.WriteAnswer.the-variants.{Written, Refused}
 use Rattle.promises.specs.OnlyAuthenticated.{Call, Meets, Promise, OnlyAuthenticatedPromises}
-
--- what a code's answer says of the definition's
-pub image-of : (o : Answer (List ℕ)) (n : ℕ) → written-as o ≡ Written n → (image : List ℕ) × (t : ℕ) × (o ≡ accepted image t) × (n ≡ length image)
-image-of (accepted image t) n e = (image, t, refl, cc)
-image-of (refused k p) n e = let z : _≡_ {A = ℕ} 0 1 = cc in absurd (omega arith)
-
-pub kept : (o : Answer (List ℕ)) (q : Refusal) → written-as o ≡ Refused q → (before : List ℕ) → table-after whole o before ≡ before
-kept (accepted image t) q e before = let z : _≡_ {A = ℕ} 0 1 = cc in absurd (omega arith)
-kept (refused k p) q e before = refl
+use Rattle.promises.proofs.Listed.{image-of, kept}
 
 module _ (c : Call) (bytes : Bytes (c .message)) (meets : Meets c) where
   abbrev said : Answer (List ℕ)

@@ -25,8 +25,7 @@ use Rattle.checks.specs.Answers.{written-as, whole}
 use Rattle.checks.specs.declared.WriteAnswer.{WriteAnswer}
 use Rattle.checks.specs.declared.WriteAnswer.the-variants.{Written, Refused}
 use Rattle.promises.specs.Reissued.{Reissues, Tells, HasWritten, ReissuePromise, Told, ReissuedPromises}
-use Rattle.promises.proofs.Listed.{back-written}
-use Rattle.promises.proofs.OnlyAuthenticated.{image-of, kept}
+use Rattle.promises.proofs.Listed.{back-written, image-of, kept}
 
 module _ (a : Reissue) (m : List ℕ) (s : ℕ) (before after : List ℕ) (r : WriteAnswer) (call : Reissues a m s before after r) where
   abbrev said : Answer (List ℕ)

@@ -134,6 +134,7 @@ trusted-promises =
       of-only-authenticated = λ text required m s n fits h before.
           with-table written-as whole write.Refused back-written (λ p. refl) (trust .of-only-authenticated text required (length before) m s fits .whole n h) before;
       of-reissue = λ a m s n fits h before. with-table written-as whole write.Refused back-written (λ p. refl) (trust .of-reissue a (length before) m s fits .whole n h) before;
+      of-reissued = λ a m s n fits h. carried written-as (λ o p e. back-written o (because 2 p) e) (trust .of-reissued a m s fits .whole n h);
       of-find = λ k m s n fits h. carried found-of (λ o p e. back-found o (because 2 p) e) (trust .of-find k m s fits .whole n h);
       of-auth = λ suite m s n fits h. carried auth-of back-auth (trust .of-auth suite m s fits .whole n h);
       context-rounds = λ mode m s before n ps h.

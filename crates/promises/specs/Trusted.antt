@@ -15,7 +15,7 @@ use Rattle.format.specs.Auth.{read-header-auth-tag}
 use Rattle.format.specs.Frames.{read-frames-into}
 use Rattle.format.specs.Lent.{pair-numbers, key-numbers, frame-numbers}
 use Rattle.format.specs.OnlyAuthenticated.{write-only-authenticated}
-use Rattle.format.specs.Reissuing.{Reissue, reissue-header-body}
+use Rattle.format.specs.Reissuing.{Reissue, reissued-header-body, reissue-header-body}
 use Rattle.format.specs.Places.{entry-end}
 use Rattle.format.specs.Trusted.{TwoRuns}
 use Rattle.format.specs.Fetched.{NoMoreThan}
@@ -107,6 +107,8 @@ pub record TrustedPromises : Type 0 where
       → Reads written-as whole (operation (reissue-header-body a (length before)) (take n m) s) before after r
       → Reads written-as whole (operation (reissue-header-body a (length before)) m s) before after′ r′
       → TwoRuns (λ p. left (write.Refused (because 2 p)) before) n (length m) (left r after) (left r′ after′)
+  pub of-reissued : (a : Reissue) (m : List ℕ) (s n : ℕ) → length m ≤ 4294967295 → n ≤ length m → (r r′ : WriteAnswer) → r ≡ written-as (operation (reissued-header-body a) (take n m) s)
+      → r′ ≡ written-as (operation (reissued-header-body a) m s) → TwoRuns (λ p. write.Refused (because 2 p)) n (length m) r r′
   pub of-find : (k m : List ℕ) (s n : ℕ) → length m ≤ 4294967295 → n ≤ length m → (r r′ : FoundAnswer) → r ≡ found-of (operation (find-value k) (take n m) s)
       → r′ ≡ found-of (operation (find-value k) m s) → TwoRuns (λ p. found.Refused (because 2 p)) n (length m) r r′
   pub of-auth : (suite : ℕ) (m : List ℕ) (s n : ℕ) → length m ≤ 4294967295 → n ≤ length m → (r r′ : AuthRead) → r ≡ auth-of (operation (read-header-auth-tag suite) (take n m) s)
