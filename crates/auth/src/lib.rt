@@ -1,4 +1,6 @@
 // The authentication record of a suite.
+#![tactic(auto)]
+
 mod reading;
 
 ghost use Rattle.std.specs.Prelude.{◌≡◌, ◌<◌, length};

@@ -1,4 +1,6 @@
 // Writes an authentication record.
+#![tactic(auto)]
+
 ghost use Rattle.std.specs.Prelude.{◌≡◌, length};
 ghost use Rattle.format.specs.Shared.{by};
 ghost use Rattle.format.specs.Lent.{writing_header_auth_tag};

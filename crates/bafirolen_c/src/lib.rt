@@ -1,4 +1,6 @@
 // Every operation for a host program in C or Rust. `crossing` has what crosses the boundary: requests in numbers, answers as records.
+#![tactic(auto)]
+
 mod auth_tag;
 mod authenticated;
 mod body;

@@ -1,4 +1,6 @@
 // A body without tables: its parts and where they stand, by the tests up to 20.
+#![tactic(auto)]
+
 ghost use Rattle.std.specs.Prelude.{◌≡◌, ◌<◌, length};
 ghost use Rattle.body_measure.specs.Codes.{Measured, frame_test, why_measure};
 

@@ -1,4 +1,6 @@
 // ReadHeaderBody, ReadV1HeaderBody and ReadV2HeaderBody: one operation, of the version and in the mode that the request asks for.
+#![tactic(auto)]
+
 ghost use Rattle.std.specs.Prelude.{◌≡◌, ◌<◌, length};
 ghost use Rattle.format.specs.Read.{at, operation};
 ghost use Rattle.format.specs.Fields.{form_number};

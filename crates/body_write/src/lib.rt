@@ -1,5 +1,7 @@
 // Writes a header body, or tells before what it takes. The writer goes by what is told: everything is tested before anything is stored,
 // so that a refusal leaves the output as it was.
+#![tactic(auto)]
+
 ghost use Rattle.std.specs.Prelude.{◌≡◌, ◌++◌, ◌+◌, length};
 ghost use Rattle.format.specs.Context.{section_in};
 ghost use Rattle.format.specs.Checks.{first, form_checks};

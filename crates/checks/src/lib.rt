@@ -1,4 +1,6 @@
 // What writers test before they store anything, and what they answer.
+#![tactic(auto)]
+
 pub mod keys;
 pub mod pairs;
 pub mod sealed;

@@ -1,4 +1,6 @@
 // Equality and order of byte strings, and of parts of messages. What two strings share is passed in blocks that are read whole.
+#![tactic(auto)]
+
 ghost use Rattle.std.specs.Prelude.{◌≡◌, true, cond, ◌+◌, ◌≤◌, ◌<◌, eqb, length};
 ghost use Rattle.format.specs.Serialize.{same_bytes};
 ghost use Rattle.format.specs.Lent.{bytes_at};

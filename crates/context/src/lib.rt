@@ -1,4 +1,6 @@
 // The context section: reading it, and finding a value in it.
+#![tactic(auto)]
+
 mod finding;
 mod pairs;
 pub mod section;

@@ -1,5 +1,7 @@
 // What crosses the boundary to a host: requests in numbers, answers as records. Enums don't cross it: each answer becomes a struct of
 // numbers, by value.
+#![tactic(auto)]
+
 pub mod asked;
 pub mod auth_tag;
 pub mod body;

@@ -1,5 +1,7 @@
 // A draft, mended in the buffer in which it stands: keys taken out of it, or one added. It is read in either version, tolerantly, without
 // tables or maximum; its keys are walked, and no copy of it is made.
+#![tactic(auto)]
+
 mod adding;
 mod dropping;
 

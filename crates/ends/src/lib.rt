@@ -1,5 +1,7 @@
 // The two ends of a header body: the opening, which stands before the context section, and the closing, which stands behind
 // the key section.
+#![tactic(auto)]
+
 mod leading;
 mod shared;
 

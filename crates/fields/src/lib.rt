@@ -1,5 +1,7 @@
 // The numbers among a header body's fields, and the mark beside them, which a reader gives and a writer takes; and the tests that both
 // make of them.
+#![tactic(auto)]
+
 ghost use Rattle.std.specs.Prelude.{◌≡◌};
 ghost use Rattle.fields.specs.Codes.{form_named};
 ghost use Rattle.format.specs.Shared.{one_or_two, frame_fits};

@@ -37,4 +37,5 @@ module _ {A : Type 0} (f : List A → A → List Check) (test : A → Bool) (Apa
       (then_each (done ++ (x ∷ [])) xs b (λ z y m i. ⊎_elim (λ j. apart z y (Memᴰ.tail m) j) (λ j. last z y m j) (Memᴰ.append_cases done i)) pairs)
     where
       last : (z y : A) → Memᴰ z xs → Memᴰ y (x ∷ []) → Apart y z
+      last z y m (Memᴰ.tail x8) = elim x8 [ ]
       last z y m (Memᴰ.head e) = subst (λ w. Apart w z) (sym e) (h z ∣ m ∣₁)

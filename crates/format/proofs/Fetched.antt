@@ -50,6 +50,7 @@ fewer n k h (p ∷ ps) = by (ltb k p) refl (fewer n k h ps)
 -- and one of them fewer, where one was reached
 one_fewer : (n p : ℕ) → n < p → (ps : List ℕ) → Memᴰ p ps → beyond p ps < beyond n ps
 unfolding beyond
+one_fewer n p h [] x' = elim x' [ ]
 one_fewer n p h (q ∷ ps) (Memᴰ.head e) =
     let z = fewer n p (omega arith) ps in
     rw (← e, nleb_is (suc p) p (omega arith), leb_is (suc n) p (omega arith)) (omega arith)

@@ -39,6 +39,7 @@ equal_same (x ∷ a) = rw (eqb_is x x refl, equal_same a) refl
 -- a key was seen just where a pair has it
 pub has_seen : (k : List ℕ) (ps : List PairAt) → Has k ps → seen k (map pair_of ps) ≡ true
 unfolding seen
+has_seen k [] x' = elim x' [ ]
 has_seen k (p ∷ ps) (here e) = rw (← e, equal_same k) refl
 has_seen k (p ∷ ps) (there h) = or_right (same_bytes k p.key.bytes) (has_seen k ps h)
 
@@ -54,6 +55,7 @@ seen_has k (p ∷ ps) e = go (same_bytes k p.key.bytes) refl e (seen_has k ps)
 -- and so of pairs without their places
 pub member_seen : (k : List ℕ) (p : Pair) (ps : List Pair) → Memᴰ p ps → k ≡ p.key → seen k ps ≡ true
 unfolding seen
+member_seen k p [] x'' h = elim x'' [ ]
 member_seen k p (q ∷ ps) (Memᴰ.head e) h = rw (← ap (λ x. x.key) e, ← h, equal_same k) refl
 member_seen k p (q ∷ ps) (Memᴰ.tail m) h = or_right (same_bytes k q.key) (member_seen k p ps m h)
 
@@ -72,6 +74,7 @@ contrary e f = let z : ◌≡◌ {A = ℕ} 0 1 = cc in omega arith
 
 -- the key of p, which stands among the pairs before, is in none of the pairs behind
 apart : (k : List ℕ) (p : Pair) (before after : List Pair) (ps : List PairAt) → Oks NextOk (before ++ (p ∷ after)) (map pair_of ps) → k ≡ p.key → Has k ps → ⊥
+apart k p before after [] _ e x4 = elim x4 [ ]
 apart k p before after (r ∷ ps) (o, os) e (here h) = contrary (member_seen r.key.bytes p (before ++ (p ∷ after)) (Memᴰ.append_right before (Memᴰ.head refl)) (sym h ∙ e)) o.new
 apart k p before after (r ∷ ps) (o, os) e (there h) = apart k p before (after ++ (pair_of r ∷ [])) ps (rw (append_assoc before (p ∷ after) (pair_of r ∷ [])) at os) e h
 
@@ -81,11 +84,13 @@ differ acc (p ∷ ps) (o, os) = (λ h. apart p.key.bytes (pair_of p) acc [] ps o
 
 -- looking a key up
 member_has : (k : List ℕ) (p : PairAt) (ps : List PairAt) → Memᴰ p ps → k ≡ p.key.bytes → Has k ps
+member_has k p [] x'' h = elim x'' [ ]
 member_has k p (q ∷ ps) (Memᴰ.head e) h = here (h ∙ ap (λ x. x.key.bytes) e)
 member_has k p (q ∷ ps) (Memᴰ.tail m) h = there (member_has k p ps m h)
 
 found : (k : List ℕ) (ps : List PairAt) (l : List ℕ) (s : ℕ) (p : PairAt) → Memᴰ p ps → k ≡ p.key.bytes → Differ ps → look_up k ps l s ≡ success p.value l s
 unfolding look_up
+found k [] l s p x3 h d = elim x3 [ ]
 found k (q ∷ ps) l s p (Memᴰ.head e) h d =
     let z : k ≡ q.key.bytes = h ∙ ap (λ x. x.key.bytes) e in
     let y : p.value ≡ q.value = ap (λ x. x.value) e in
@@ -117,6 +122,7 @@ module _ (m : List ℕ) (s : ℕ) (hb : Bytes m) where
 
   value_held : (ps : List PairAt) (p : PairAt) → Memᴰ p ps → Each (Held m) (images pair_places ps) → Held m p.value
   unfolding images
+  value_held [] p x'' _ = elim x'' [ ]
   value_held (q ∷ ps) p (Memᴰ.head e) (hk, (hv, h)) = rw e hv
   value_held (q ∷ ps) p (Memᴰ.tail i) (hk, (hv, h)) = value_held ps p i h
 

@@ -25,10 +25,12 @@ is_member (j ∷ js) k e = go (eqb k j) refl e (is_member js k)
     go false q e ih = Memᴰ.tail (ih e)
 
 pub member_is : (js : List ℕ) (k : ℕ) → Memᴰ k js → has js k ≡ true
+member_is [] k x' = elim x' [ ]
 member_is (j ∷ js) k (Memᴰ.head e) = rw (eqb_is k j e) refl
 member_is (j ∷ js) k (Memᴰ.tail h) = or_right (eqb k j) (member_is js k h)
 
 pub members : (js ks : List ℕ) → has_all js ks ≡ true → (k : ℕ) → Memᴰ k ks → Memᴰ k js
+members js [] e k x'' = elim x'' [ ]
 members js (j ∷ ks) e k (Memᴰ.head q) = rw q (is_member js j (both (has js j) _ e).0)
 members js (j ∷ ks) e k (Memᴰ.tail h) = members js ks (both (has js j) _ e).1 k h
 

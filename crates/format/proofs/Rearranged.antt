@@ -36,6 +36,7 @@ module _ {A : Type 0} where
       swap false false c = refl
 
   pub member : {x : A} {xs ys : List A} → Rearranged xs ys → Memᴰ x xs → Memᴰ x ys
+  member Permᴰ.nil m = elim m [ ]
   member (Permᴰ.cons e d) (Memᴰ.head f) = Memᴰ.head (f ∙ e)
   member (Permᴰ.cons e d) (Memᴰ.tail m) = Memᴰ.tail (member d m)
   member (Permᴰ.swap e f) (Memᴰ.head g) = Memᴰ.tail (Memᴰ.head (g ∙ e))

@@ -77,6 +77,7 @@ module _ (a : Reissue) (v : Sent) (o : BodyOk asks v) (fits : frame_fits v.field
         }
 
     ok : (which : Which) → ReadsVersion2 which → BodyOk (asked_of which) (result a v)
+    ok v1_only x' = elim x' [ ]
     ok either by_either = is_ok either refl fits
     ok v2_only by_v2_only = is_ok v2_only refl refl
 

@@ -22,6 +22,7 @@ use Rattle.format.proofs.KeyOrder.{total, not_itself, passes_on, not_both}
 
 -- PAIRS THAT ASCEND. The first comes before every other, and not only before the next; and that is all that its place asks
 least : (p : Pair) (ps : List Pair) → Ascends (p ∷ ps) → (q : Pair) → Memᴰ q ps → before p.key q.key ≡ true
+least p [] _ q x3 = elim x3 [ ]
 least p (r ∷ ps) (n, a) q (Memᴰ.head e) = rw e n
 least p (r ∷ ps) (n, a) q (Memᴰ.tail m) = passes_on p.key r.key q.key n (least r ps a q m)
 
@@ -124,6 +125,7 @@ among_in (x ∷ keys) k e = ⊎_elim (λ q. Memᴰ.head (same_equal k x q)) (λ 
 
 in_among : (keys : List (List ℕ)) (k : List ℕ) → Memᴰ k keys → is_among keys k ≡ true
 unfolding is_among
+in_among [] k x' = elim x' [ ]
 in_among (x ∷ keys) k (Memᴰ.head e) = rw (← e, equal_same k) refl
 in_among (x ∷ keys) k (Memᴰ.tail m) = or_right (same_bytes k x) (in_among keys k m)
 
@@ -141,6 +143,7 @@ kept keys (p ∷ ps) r m = go (is_among keys p.key) refl m (kept keys ps r)
 
 keeps : (keys : List (List ℕ)) (ps : List Pair) (r : Pair) → Memᴰ r ps → is_among keys r.key ≡ true → Memᴰ r (only_required keys ps)
 unfolding only_required
+keeps keys [] r x'' k = elim x'' [ ]
 keeps keys (p ∷ ps) r (Memᴰ.head e) k = rw (← ap (λ x. is_among keys x.key) e, k) (Memᴰ.head e)
 keeps keys (p ∷ ps) r (Memᴰ.tail m) k = go (is_among keys p.key) (keeps keys ps r m k)
   where

@@ -79,6 +79,7 @@ good_behind acc k (j ∷ ks) (p, os) o = (p, good_behind (acc ++ (j ∷ [])) k k
 
 -- a key with another ID is left
 pub left_in : {id : List ℕ} {ks js : List EncryptedDataKey} → TakenOut id ks js → {k : EncryptedDataKey} → Memᴰ k ks → (id ≡ k.keyProviderId → ⊥) → Memᴰ k js
+left_in {id = id} none_there {k = k} x7 d = elim x7 [ ]
 left_in (goes e h) (Memᴰ.head i) d = absurd (d (e ∙ sym (ap (λ (x : EncryptedDataKey). x.keyProviderId) i)))
 left_in (goes e h) (Memᴰ.tail m) d = left_in h m d
 left_in (stays n h) (Memᴰ.head i) d = Memᴰ.head i

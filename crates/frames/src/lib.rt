@@ -1,4 +1,6 @@
 // The frames behind a header: where each one's IV, content and tag stand.
+#![tactic(auto)]
+
 mod filling;
 mod frame;
 

@@ -1,5 +1,7 @@
 // Writes frames, or tells before what they take. The writer goes by what is told: everything is tested before anything is stored, so that
 // a refusal leaves the output as it was.
+#![tactic(auto)]
+
 mod checking;
 mod storing;
 

@@ -1,5 +1,7 @@
 // An ordered index of keys: numbers that stand for the pairs so far, in the order of their keys. It takes the place of the
 // source's set of keys, which a search of all earlier keys would make quadratic. How a number leads to its key is up to the user.
+#![tactic(auto)]
+
 ghost use Rattle.std.specs.Prelude.{◌≡◌, ◌+◌, ◌-◌, ◌≤◌, ◌<◌, length, get_or};
 ghost use Rattle.index.specs.Index.{Copied, Shifted, between, least_of};
 

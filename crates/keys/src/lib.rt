@@ -1,4 +1,6 @@
 // The encrypted data keys section.
+#![tactic(auto)]
+
 pub mod section;
 
 ghost use Rattle.std.specs.Prelude.{◌≡◌, ◌<◌, length};

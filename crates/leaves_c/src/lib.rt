@@ -1,4 +1,6 @@
 // The leaves for a host program in C or Rust: numbers and structs of numbers cross the boundary by value.
+#![tactic(auto)]
+
 ghost use Rattle.std.specs.Prelude.{◌≡◌, ◌+◌, leb};
 ghost use Rattle.format.specs.Read.{operation};
 ghost use Rattle.format.specs.Serialize.{read_operation, read_uint8, read_uint16, read_uint32, read_short_length_seq};

@@ -1,4 +1,6 @@
 // Lists the header at the front of standard input: at most 65,536 bytes of it, and the rest is ignored.
+#![tactic(auto)]
+
 ghost use Rattle.std.specs.Prelude.{◌≡◌, ◌≤◌, length};
 ghost use Rattle.format.specs.Lent.{filled};
 ghost use Rattle.io.specs.Counts.{IsPrefixLen};

@@ -1,4 +1,6 @@
 // The listing of a message as text: what document 01's listing program writes.
+#![tactic(auto)]
+
 mod lines;
 mod sizes;
 

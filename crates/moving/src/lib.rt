@@ -1,4 +1,6 @@
 // Moves of bytes within one lent buffer, and clearing a part of it. Nothing else of the buffer changes.
+#![tactic(auto)]
+
 ghost use Rattle.std.specs.Prelude.{◌≡◌, ◌+◌, ◌-◌, ◌≤◌, length};
 ghost use Rattle.format.specs.Auth.{zeros};
 ghost use Rattle.format.specs.Lent.{bytes_at};

@@ -1,5 +1,7 @@
 // The bytes of the pairs that are only authenticated: those of a context section whose keys are required, in the order of their keys.
 // The index that finds a key seen before has that order: each required key is looked up there, and its place is marked.
+#![tactic(auto)]
+
 mod marking;
 mod putting;
 

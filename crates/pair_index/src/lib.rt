@@ -1,5 +1,7 @@
 // An ordered index of the keys of pairs, so that a key that was seen before is found by halving. The index holds, in the
 // order of the keys, how far behind the first pair each pair stands.
+#![tactic(auto)]
+
 ghost use Rattle.std.specs.Prelude.{◌≡◌, ◌+◌, ◌≤◌, ◌<◌, length, get_or};
 ghost use Rattle.comparing.specs.Order.{compare_bytes};
 ghost use Rattle.index.specs.Index.{Sought};

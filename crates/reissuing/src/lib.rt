@@ -1,5 +1,7 @@
 // A version 1 draft, reissued in version 2: its sections are copied whole from the message into the output, between new ends. It is read
 // without tables, and nothing is stored before every test has passed.
+#![tactic(auto)]
+
 mod reading;
 mod storing;
 

@@ -1,4 +1,6 @@
 // What a reading is asked for, beside the message and the start; and the policy, which a body's writer is handed too.
+#![tactic(auto)]
+
 ghost use Rattle.std.specs.Prelude.{◌≡◌};
 ghost use Rattle.format.specs.Policies.{lets_write, lets_read};
 ghost use Rattle.request.specs.Codes.{policy_of};

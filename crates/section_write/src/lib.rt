@@ -1,5 +1,7 @@
 // Writes the two sections of a header body from a lent text and lent tables of places. Everything is tested before anything is
 // stored, so that a refusal leaves the output as it was.
+#![tactic(auto)]
+
 mod entries;
 
 ghost use Rattle.std.specs.Prelude.{◌≡◌, ◌+◌, ◌≤◌, ◌<◌, length};

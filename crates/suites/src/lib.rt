@@ -1,8 +1,10 @@
 // The suite table, looking a suite up in it, and the constants that belong to a suite.
+#![tactic(auto)]
+
 ghost use Rattle.std.specs.Prelude.{◌≡◌, ◌+◌, ◌*◌};
 ghost use Rattle.suites.specs.Table.{suite_of};
 
-#[derive(Drop)]
+#[derive(Clone, Copy)]
 struct SuiteRow {
     number: u32,
     version: u8,

@@ -1,5 +1,7 @@
 // Whether bytes are UTF-8, by RFC 3629. Bytes below 128 are passed in blocks that are read whole, with no way out inside: such a
 // loop becomes a few vector instructions.
+#![tactic(auto)]
+
 ghost use Rattle.std.specs.Prelude.{◌≡◌, true, cond, leb, [], ◌∷◌, ◌+◌, ◌≤◌, ◌<◌, length, get_or};
 ghost use Rattle.format.specs.Utf8.{◌‥◌, has, valid_utf8_seq};
 ghost use Rattle.format.specs.Lent.{bytes_at};

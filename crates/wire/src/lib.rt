@@ -1,4 +1,6 @@
 // Numbers, bytes and entries: read at a place of a message, and written into a lent output; and the refusals.
+#![tactic(auto)]
+
 pub mod operations;
 pub mod reading;
 pub mod refusals;

@@ -1,9 +1,0 @@
-use Rattle.bafirolen_c.proofs.Crossing.{write_crosses}
-use borrow.Author.Rules.{rules}
-use Rattle.bafirolen_c.proofs.writers.bafirolen_write_encrypted_data_keys_section.Statement.{statement}
-use Rattle.bafirolen_c.proofs.writers.bafirolen_write_encrypted_data_keys_section.Tie as tie
-
-ruleset laws = (write_crosses, rules)
-
-pub bafirolen-write-encrypted-data-keys-section-spec : {M : Type 1} → statement M
-bafirolen-write-encrypted-data-keys-section-spec = tie.close (tie.spec (λ c κs. search laws) (λ c κs. search laws) (λ c. search laws) (λ c. search laws))

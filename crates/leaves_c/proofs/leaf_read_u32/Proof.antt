@@ -1,9 +1,0 @@
-use Rattle.leaves_c.proofs.Crossing.{number_crosses}
-use borrow.Author.Rules.{rules}
-use Rattle.leaves_c.proofs.leaf_read_u32.Statement.{statement}
-use Rattle.leaves_c.proofs.leaf_read_u32.Tie as tie
-
-ruleset laws = (number_crosses, rules)
-
-pub leaf-read-u32-spec : {M : Type 1} → statement M
-leaf-read-u32-spec = tie.close (tie.spec (λ c κs. search laws) (λ c κs. search laws) (λ c. search laws))

@@ -1,0 +1,8 @@
+use Rattle.std.proofs.Common.{rules}
+use Rattle.utf8.proofs.Utf8Laws.{two_not, two_is}
+use Rattle.utf8.proofs.is_two.Goals as goal
+
+ruleset laws = (two_not, two_is, rules)
+
+pub returns : goal.returns
+returns c = search laws

@@ -1,0 +1,11 @@
+use Prim.Native.Nat.{◌-◌}
+use lib.ListN.{length}
+use Rattle.utf8.proofs.Utf8Laws.{passed_none, passed_on, char_none, char_some, all_passed}
+use Rattle.utf8.specs.Scan.{Passed}
+use Rattle.utf8.proofs.is_utf8.Given as goal
+
+abbrev pub invariant-loop-i : goal.invariant-loop-i
+invariant-loop-i l = Passed l.m 0 l.i
+
+abbrev pub decreases-loop-i : goal.decreases-loop-i
+decreases-loop-i l = length l.m - l.i

@@ -1,9 +1,0 @@
-use Rattle.wire.proofs.Answers.{number_as, not_number, near, opened, guarded}
-use borrow.Author.Rules.{rules}
-use Rattle.wire.proofs.operations.read_u8.Statement.{statement}
-use Rattle.wire.proofs.operations.read_u8.Tie as tie
-
-ruleset laws = (number_as, not_number, near, opened, guarded, rules)
-
-pub read-u8-spec : {M : Type 1} → statement M
-read-u8-spec = tie.close (tie.spec (λ c κs. search laws) (λ c κs. search laws) (λ c. search laws) (λ c κs. search laws) (λ c. search laws))
