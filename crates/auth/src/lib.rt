@@ -13,7 +13,7 @@ use wire::{refusals, refuse};
 
 // What reading a record answers: number 0 and the tail with the record; or a refusal, and then the record is all 00. An enum
 // holds no array, so this is a struct.
-#[derive(Drop)]
+#[derive(Clone, Copy)]
 pub struct AuthRead {
     pub number: u8,
     pub position: u64,

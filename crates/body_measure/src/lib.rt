@@ -13,7 +13,7 @@ use wire::{Refusal, refusals, refuse};
 
 // A body without tables: its ends, where its context section starts, where its key section starts and ends, and how many pairs and
 // keys they have.
-#[derive(Drop)]
+#[derive(Clone, Copy)]
 pub enum MeasureAnswer {
     Is {
         opening: Opening,

@@ -18,7 +18,7 @@ use wire::{Refusal, reading, refusals, refuse};
 
 // The ID and the suite data by their places in the message, and how many pairs and keys stand in the tables. Type, IV length
 // and suite data are 0 where the version lacks them.
-#[derive(Drop)]
+#[derive(Clone, Copy)]
 pub struct HeaderBody {
     pub numbers: BodyNumbers,
     pub messageIdStart: u64,
@@ -29,7 +29,7 @@ pub struct HeaderBody {
     pub suiteDataLen: u64,
 }
 
-#[derive(Drop)]
+#[derive(Clone, Copy)]
 pub enum HeaderBodyAnswer {
     Accepted { body: HeaderBody, tail: u64 },
     Refused(Refusal),

@@ -13,7 +13,7 @@ ghost use Rattle.wire.specs.Codes.{because};
 use wire::{Refusal, refuse};
 
 // What tests find: every one passes, or the first refusal that applies.
-#[derive(Drop)]
+#[derive(Clone, Copy)]
 pub enum Checked {
     Passes,
     Fails(Refusal),
@@ -21,7 +21,7 @@ pub enum Checked {
 
 // What a writer answers: the length of the image that it wrote, or the refusal, with the output as it was. Before there is an output, what
 // it would answer to one that is long enough.
-#[derive(Drop)]
+#[derive(Clone, Copy)]
 pub enum WriteAnswer {
     Written(usize),
     Refused(Refusal),

@@ -7,7 +7,7 @@ ghost use Rattle.format.specs.Lent.{bytes_at};
 ghost use Rattle.comparing.specs.Order.{compare_bytes, Alike, Agree, Halted, Stopped, Fewer, Parted};
 
 // How two byte strings stand to each other: by the first byte that differs, and one that begins another comes before it.
-#[derive(Drop)]
+#[derive(Clone, Copy)]
 pub enum Order {
     Less,
     Equal,

@@ -18,14 +18,14 @@ use request::{Mode, Request};
 use wire::{Refusal, reading, refusals, refuse};
 
 // How many pairs were read, and the tail; or the refusal.
-#[derive(Drop)]
+#[derive(Clone, Copy)]
 pub enum ContextAnswer {
     Accepted { pairCount: u64, tail: u64 },
     Refused(Refusal),
 }
 
 // Where the value that was found stands; or the refusal.
-#[derive(Drop)]
+#[derive(Clone, Copy)]
 pub enum FoundAnswer {
     At { start: u64, len: u64 },
     Refused(Refusal),

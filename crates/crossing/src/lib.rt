@@ -13,7 +13,7 @@ use fields::BodyNumbers;
 
 // A section that was read: how many pairs or keys, and the tail. Number 0: accepted.
 #[repr(C)]
-#[derive(Drop)]
+#[derive(Clone, Copy)]
 pub struct BafirolenSection {
     pub number: u64,
     pub position: u64,
@@ -23,7 +23,7 @@ pub struct BafirolenSection {
 
 // An authentication record that was read. On a refusal it is all 00.
 #[repr(C)]
-#[derive(Drop)]
+#[derive(Clone, Copy)]
 pub struct BafirolenAuth {
     pub number: u64,
     pub position: u64,
@@ -35,7 +35,7 @@ pub struct BafirolenAuth {
 // A body that was read: its numbers with the mark of its form, where its ID and suite data stand, how many pairs and keys, and the
 // tail. Number 0: accepted; on a refusal all but the number and the position is 0.
 #[repr(C)]
-#[derive(Drop)]
+#[derive(Clone, Copy)]
 pub struct BafirolenBody {
     pub number: u64,
     pub position: u64,
@@ -51,7 +51,7 @@ pub struct BafirolenBody {
 
 // A value that was found: where its bytes stand in the message.
 #[repr(C)]
-#[derive(Drop)]
+#[derive(Clone, Copy)]
 pub struct BafirolenPlace {
     pub number: u64,
     pub position: u64,
@@ -61,7 +61,7 @@ pub struct BafirolenPlace {
 
 // What was written or copied, or what a write takes: how many bytes from the first byte of the output on; 0 on a refusal.
 #[repr(C)]
-#[derive(Drop)]
+#[derive(Clone, Copy)]
 pub struct BafirolenWritten {
     pub number: u64,
     pub position: u64,

@@ -17,21 +17,21 @@ use request::{Max, Mode, Policy, Request, Which};
 use wire::{Refusal, reading, refusals, refuse};
 
 // Whether a key's provider ID is the one that is asked for, and the place behind the key.
-#[derive(Drop)]
+#[derive(Clone, Copy)]
 pub struct KeyAt {
     pub same: bool,
     pub tail: u64,
 }
 
 // How many keys are kept, and the place behind them.
-#[derive(Drop)]
+#[derive(Clone, Copy)]
 pub struct Kept {
     pub count: u64,
     pub end: u64,
 }
 
 // A draft at the front of a buffer: where its key section starts, how many keys that has, where it ends, and where the draft does.
-#[derive(Drop)]
+#[derive(Clone, Copy)]
 pub struct Draft {
     pub keysStart: u64,
     pub keyCount: u64,
@@ -39,7 +39,7 @@ pub struct Draft {
     pub tail: u64,
 }
 
-#[derive(Drop)]
+#[derive(Clone, Copy)]
 pub enum DraftAnswer {
     Is(Draft),
     Not(Refusal),

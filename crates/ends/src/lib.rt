@@ -18,21 +18,21 @@ use suites::Suite;
 use wire::{Number, Refusal, Span, reading, refusals, refuse};
 
 // The leading fields, which stand before the message ID.
-#[derive(Drop)]
+#[derive(Clone, Copy)]
 struct Lead {
     version: u32,
     messageType: u32,
     suite: u32,
 }
 
-#[derive(Drop)]
+#[derive(Clone, Copy)]
 enum LeadAnswer {
     Is { lead: Lead, tail: u64 },
     Not(Refusal),
 }
 
 // The ID by its place in the message.
-#[derive(Drop)]
+#[derive(Clone, Copy)]
 pub struct Opening {
     pub version: u32,
     pub messageType: u32,
@@ -41,14 +41,14 @@ pub struct Opening {
     pub messageIdLen: u64,
 }
 
-#[derive(Drop)]
+#[derive(Clone, Copy)]
 pub enum OpeningAnswer {
     Is { opening: Opening, tail: u64 },
     Not(Refusal),
 }
 
 // The suite data by their place in the message.
-#[derive(Drop)]
+#[derive(Clone, Copy)]
 pub struct Closing {
     pub contentType: u32,
     pub headerIvLength: u32,
@@ -57,7 +57,7 @@ pub struct Closing {
     pub suiteDataLen: u64,
 }
 
-#[derive(Drop)]
+#[derive(Clone, Copy)]
 pub enum ClosingAnswer {
     Is { closing: Closing, tail: u64 },
     Not(Refusal),

@@ -11,7 +11,7 @@ ghost use Rattle.entries.specs.Codes.{why_next, EntryIs};
 use wire::{Refusal, reading, refusals, refuse};
 
 // The place behind what was read, or the refusal.
-#[derive(Drop)]
+#[derive(Clone, Copy)]
 pub enum Next {
     At(u64),
     Not(Refusal),
@@ -30,7 +30,7 @@ impl Next {
 }
 
 // Where an entry's bytes stand, and the place behind them.
-#[derive(Drop)]
+#[derive(Clone, Copy)]
 pub struct Entry {
     pub start: u64,
     pub len: u64,

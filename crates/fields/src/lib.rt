@@ -9,7 +9,7 @@ ghost use Rattle.format.specs.Shared.{one_or_two, frame_fits};
 // Each has the 32 bits of the frame length, so that no refusal has to speak of a longer one; and the others, which are stored in
 // fewer, are tested as a host hands them over: 257 is no version, and is not cut to 1. A host's record is this one.
 #[repr(C)]
-#[derive(Drop)]
+#[derive(Clone, Copy)]
 pub struct BodyNumbers {
     pub version: u32,
     pub messageType: u32,
@@ -22,7 +22,7 @@ pub struct BodyNumbers {
 
 // The mark: the form that a body was read in and is written in. It shows in an empty context only, 00 00 today and 00 02 00 00 in the
 // old form.
-#[derive(Drop)]
+#[derive(Clone, Copy)]
 pub enum Form {
     Today,
     Old,

@@ -14,7 +14,7 @@ ghost use Rattle.frames.specs.Codes.{frames_of, frames_tabled};
 use wire::{Refusal, reading, refusals};
 
 // How many frames were read, the final one included, and the tail; or the refusal.
-#[derive(Drop)]
+#[derive(Clone, Copy)]
 pub enum FramesAnswer {
     Accepted { frameCount: u64, tail: u64 },
     Refused(Refusal),
@@ -40,7 +40,7 @@ fn refused(number: u8) -> FramesAnswer
 
 // Where a frame that was read ends, and whether it is the last one: number 0; or a refusal's number, and its position as the place.
 // A struct and not an enum, whose cases the compiler would keep in memory.
-#[derive(Drop)]
+#[derive(Clone, Copy)]
 pub struct FrameRead {
     pub number: u8,
     pub last: bool,
@@ -48,7 +48,7 @@ pub struct FrameRead {
 }
 
 // Where a frame's IV, content and tag stand, how long the content is, and the place behind the frame.
-#[derive(Drop)]
+#[derive(Clone, Copy)]
 pub struct FramePlaces {
     pub iv: u64,
     pub content: u64,

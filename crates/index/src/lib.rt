@@ -6,7 +6,7 @@ ghost use Rattle.std.specs.Prelude.{◌≡◌, ◌+◌, ◌-◌, ◌≤◌, ◌<
 ghost use Rattle.index.specs.Index.{Copied, Shifted, between, least_of};
 
 // Where a key stands in an index, or where it belongs.
-#[derive(Drop)]
+#[derive(Clone, Copy)]
 pub enum Spot {
     Found(usize),
     At(usize),
@@ -27,7 +27,7 @@ fn wide(x: u16) -> usize
 
 // What is left of a search: the keys below `lo` are less, those from `hi` on are greater, and the one at `mid` is compared next. The
 // loop over it stands once for each kind of index, since a function can't be handed the comparison.
-#[derive(Drop)]
+#[derive(Clone, Copy)]
 pub struct Halves {
     pub lo: usize,
     pub hi: usize,

@@ -15,7 +15,7 @@ use request::{Max, Request};
 use wire::{Refusal, reading, refusals, refuse};
 
 // How many keys were read, and the tail; or the refusal.
-#[derive(Drop)]
+#[derive(Clone, Copy)]
 pub enum KeysAnswer {
     Accepted { keyCount: u64, tail: u64 },
     Refused(Refusal),

@@ -14,7 +14,7 @@ use wire::{End, Number, Span};
 
 // A number that was read: refusal 0 where it was accepted.
 #[repr(C)]
-#[derive(Drop)]
+#[derive(Clone, Copy)]
 pub struct LeafNumber {
     pub refusal: u64,
     pub position: u64,
@@ -24,7 +24,7 @@ pub struct LeafNumber {
 
 // A part that was read.
 #[repr(C)]
-#[derive(Drop)]
+#[derive(Clone, Copy)]
 pub struct LeafPart {
     pub refusal: u64,
     pub position: u64,

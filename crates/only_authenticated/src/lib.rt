@@ -27,7 +27,7 @@ use wire::reading;
 use wire::refusals::{NOT_ADDRESSABLE, REQUIRED_TABLE_OR_PLACE};
 
 // How many pairs are marked, and how many bytes they take.
-#[derive(Drop)]
+#[derive(Clone, Copy)]
 pub struct Total {
     pub count: usize,
     pub size: usize,

@@ -18,7 +18,7 @@ use wire::{Refusal, refusals, refuse};
 
 // A version 1 draft: where its context section starts and how many pairs that has, where its key section starts and ends, and what
 // stands behind that and is taken over.
-#[derive(Drop)]
+#[derive(Clone, Copy)]
 pub struct Draft {
     pub contextStart: u64,
     pub pairCount: u64,
@@ -28,7 +28,7 @@ pub struct Draft {
     pub frameLength: u32,
 }
 
-#[derive(Drop)]
+#[derive(Clone, Copy)]
 pub enum DraftAnswer {
     Is(Draft),
     Not(Refusal),

@@ -6,21 +6,21 @@ ghost use Rattle.format.specs.Policies.{lets_write, lets_read};
 ghost use Rattle.request.specs.Codes.{policy_of};
 
 // The key maximum: none, or a number of keys.
-#[derive(Drop)]
+#[derive(Clone, Copy)]
 pub enum Max {
     None,
     AtMost(u64),
 }
 
 // Whether an empty context in its old form, 00 02 00 00, is accepted.
-#[derive(Drop)]
+#[derive(Clone, Copy)]
 pub enum Mode {
     Tolerant,
     Strict,
 }
 
 // Which version a body reader accepts.
-#[derive(Drop)]
+#[derive(Clone, Copy)]
 pub enum Which {
     Either,
     V1Only,
@@ -28,7 +28,7 @@ pub enum Which {
 }
 
 // The SDK's commitment policies, by their names there.
-#[derive(Drop)]
+#[derive(Clone, Copy)]
 pub enum Policy {
     None,
     ForbidEncryptAllowDecrypt,
@@ -36,7 +36,7 @@ pub enum Policy {
     RequireEncryptRequireDecrypt,
 }
 
-#[derive(Drop)]
+#[derive(Clone, Copy)]
 pub struct Request {
     pub which: Which,
     pub policy: Policy,

@@ -59,13 +59,13 @@ const SUITES: [SuiteRow; 11] = [
 ];
 
 // A suite of the table.
-#[derive(Drop)]
+#[derive(Clone, Copy)]
 pub struct Suite {
     pub number: u32,
     pub version: u8,
 }
 
-#[derive(Drop)]
+#[derive(Clone, Copy)]
 pub enum SuiteAnswer {
     Known(Suite),
     Unknown,

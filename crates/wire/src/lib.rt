@@ -10,7 +10,7 @@ ghost use Rattle.std.specs.Prelude.{◌≡◌, ◌<◌};
 ghost use Rattle.wire.specs.Codes.{because, why_number, why_span};
 
 // The number is one of `refusals`. The position is the place wanted for SHORTAGE, and otherwise 0.
-#[derive(Drop)]
+#[derive(Clone, Copy)]
 pub struct Refusal {
     pub number: u8,
     pub position: u64,
@@ -44,21 +44,21 @@ pub fn shortage(position: u64) -> Refusal
 }
 
 // A number that was read, and the tail; or the refusal.
-#[derive(Drop)]
+#[derive(Clone, Copy)]
 pub enum Number {
     Is { value: u64, tail: u64 },
     Not(Refusal),
 }
 
 // A part of the message that was read, and the tail; or the refusal.
-#[derive(Drop)]
+#[derive(Clone, Copy)]
 pub enum Span {
     At { start: u64, len: u64, tail: u64 },
     Not(Refusal),
 }
 
 // The end that what is read has to stay within: none, or that of the section it stands in.
-#[derive(Drop)]
+#[derive(Clone, Copy)]
 pub enum End {
     None,
     At(u64),
