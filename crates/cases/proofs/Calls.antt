@@ -13,7 +13,6 @@ use Rattle.format.specs.Context.{Mode, tolerant, strict, read_aad_section, read_
 use Rattle.format.specs.Keys.{at_most, read_encrypted_data_keys_section_into}
 use Rattle.format.specs.Policies.{Policy, no_policy, forbid_encrypt_allow_decrypt, require_encrypt_allow_decrypt, require_encrypt_require_decrypt, lets_read}
 use Rattle.format.specs.Body.{Which, either, v1_only, v2_only, read_header_body_under}
-use Rattle.format.specs.Fields.{old}
 use Rattle.format.specs.Auth.{read_header_auth_tag, read_header_auth_tag_of}
 use Rattle.format.specs.Frames.{read_frames_into}
 use Rattle.format.specs.OnlyAuthenticated.{write_only_authenticated}

@@ -1,11 +1,10 @@
 -- What our writer accepts, given a mark, is what the readers' exactness asks of a value. Assumes nothing.
-use mathlib.Core.Path.{◌≡◌, refl, sym, ap, ◌∙◌}
-use mathlib.Core.Bool.{Bool, true, false, not, cond, ◌&&◌, ◌||◌}
-use mathlib.Core.Option.{none}
+use mathlib.Core.Path.{◌≡◌, refl}
+use mathlib.Core.Bool.{Bool, true, false, not, cond}
 use mathlib.Core.List.{List, [], ◌∷◌, ◌++◌, map}
 use Prim.Native.Nat.{ℕ, suc, ◌+◌, ◌<◌}
 use native.Mathlib.Omega.{arith}
-use lib.Dec.{leb, ltb, eqb}
+use lib.Dec.{ltb, eqb}
 use lib.ListN.{length, take}
 use Rattle.format.specs.Serialize.{images, every, sum}
 use Rattle.format.specs.Shared.{SuiteRow, suites, version_in, known, frame_fits}
@@ -13,14 +12,14 @@ use Rattle.format.specs.Fields.{Form, Pair, EncryptedDataKey, Fields, pair_parts
 use Rattle.format.specs.Context.{pair_length, linear_length, pairs_limit}
 use Rattle.format.specs.Policies.{Policy, no_policy}
 use Rattle.format.specs.Body.{Which, either, Lead, Request}
-use Rattle.format.specs.Checks.{Check, check, first, each, has_uint16_len, count_checks, pair_checks, key_checks, pairs_checks, keys_checks, opening_checks, closing_checks, fits_form, form_checks, body_checks_under, body_checks, Accepts}
+use Rattle.format.specs.Checks.{Check, check, each, has_uint16_len, pair_checks, key_checks, pairs_checks, keys_checks, opening_checks, closing_checks, fits_form, form_checks, body_checks_under, body_checks, Accepts}
 use Rattle.format.specs.Pinned.{check_number}
 use Rattle.format.proofs.Tests.{leb_is, is_leb, eqb_is, is_eqb}
 use Rattle.format.proofs.Exact.{Oks}
 use Rattle.format.proofs.Serialize.{Short}
-use Rattle.format.proofs.Context.{PairOk, NextOk, room_all, linear_length_snoc}
+use Rattle.format.proofs.Context.{NextOk, room_all, linear_length_snoc}
 use Rattle.format.proofs.Keys.{KeyOk, KeyListOk}
-use Rattle.format.proofs.Ends.{SuiteOk, LeadOk, TopOk, EndOk, version_is}
+use Rattle.format.proofs.Ends.{LeadOk, TopOk, EndOk, version_is}
 use Rattle.format.proofs.Body.{Sent, BodyOk, top_of, end_of}
 use Rattle.format.proofs.Firsts.{Holds, holds, unheld, split, join, both, and}
 

@@ -1,14 +1,13 @@
 -- A body is read exactly as it is written, in either form. Assumes nothing.
 use mathlib.Core.Path.{◌≡◌, refl}
-use mathlib.Core.Bool.{Bool, true, false, not, ◌||◌}
-use mathlib.Core.List.{List, [], ◌∷◌, ◌++◌, append-nil, map}
+use mathlib.Core.Bool.{true, not, ◌||◌}
+use mathlib.Core.List.{List, append-nil}
 use Prim.Native.Nat.{ℕ, ◌+◌, ◌*◌, ◌<◌}
 use native.Mathlib.Omega.{arith}
 use lib.Dec.{eqb}
 use lib.ListN.{length}
-use Rattle.format.specs.Read.{◌>>=◌, ◌>>◌, return, test}
 use Rattle.format.specs.Shared.{frame_fits}
-use Rattle.format.specs.Fields.{Form, Pair, EncryptedDataKey, Fields, HeaderBody, pair_of, key_of, fields_of}
+use Rattle.format.specs.Fields.{Form, EncryptedDataKey, Fields, HeaderBody, pair_of, key_of, fields_of}
 use Rattle.format.specs.Context.{write_aad_pair}
 use Rattle.format.specs.Keys.{within, write_encrypted_data_key, write_encrypted_data_keys_section}
 use Rattle.format.specs.Body.{Request, whole, after_keys, after_context, after_opening, read_body, image}
@@ -16,7 +15,7 @@ use Rattle.format.proofs.Exact.{Exact, seq_exact, check_exact, check_as, give_ex
 use Rattle.format.proofs.Context.{pair_at, Context, context_bytes}
 use Rattle.format.proofs.Marked.{MarkedOk, marked_at, marked_exact}
 use Rattle.format.proofs.Keys.{key_at, KeysOk, keys_at, keys_exact}
-use Rattle.format.proofs.Ends.{Top, TopOk, top_bytes, top_at, v1_of, opening_exact, End, EndOk, end_bytes, end_at, closing_exact}
+use Rattle.format.proofs.Ends.{Top, TopOk, top_bytes, top_at, v1_of, opening_exact, End, EndOk, end_at, closing_exact}
 
 -- fields, and the form that their context is written in
 pub record Sent : Type 0 where

@@ -7,8 +7,8 @@ use native.Mathlib.Omega.{arith}
 use native.Mathlib.Nat.{add_assoc}
 use lib.Dec.{ltb, eqb}
 use lib.ListN.{length, length-append}
-use Rattle.format.specs.Read.{Reader, ◌>>=◌, ◌>>◌, return, test, no_end, repeat, enclosed}
-use Rattle.format.specs.Serialize.{Bytes, Part, read_uint16, write_uint16, write_short_length_seq, entry_length, images, sum}
+use Rattle.format.specs.Read.{Reader, ◌>>=◌, no_end}
+use Rattle.format.specs.Serialize.{read_uint16, write_uint16, write_short_length_seq, images, sum}
 use Rattle.format.specs.Utf8.{valid_utf8_seq}
 use Rattle.format.specs.Fields.{Form, today, old, Pair, PairAt, pair_of}
 use Rattle.format.specs.Context.{seen, pair_length, linear_length, pairs_limit, write_aad_pair, write_aad_pairs, write_aad, write_expanded_aad_section, write_aad_section, section_in, Mode, tolerant, strict, is_strict, read_text, read_aad_pair, read_aad_by}

@@ -1,11 +1,11 @@
 -- Sentence 1: the tolerant either-version reader accepts just the images of the two writers. Assumes nothing.
 use mathlib.Core.Path.{◌≡◌, refl, sym, ap, ◌∙◌}
-use mathlib.Core.Bool.{true, false}
+use mathlib.Core.Bool.{true}
 use mathlib.Core.List.{List, [], ◌∷◌, ◌++◌}
-use Prim.Native.Nat.{ℕ, ◌+◌, ◌*◌, ◌-◌, ◌≤◌, ◌<◌}
+use Prim.Native.Nat.{ℕ, ◌+◌, ◌-◌, ◌≤◌}
 use native.Mathlib.Omega.{arith}
 use lib.ListN.{length, drop, length-append, length-drop}
-use Rattle.format.specs.Read.{Answer, accepted, refused, answer, success, operation}
+use Rattle.format.specs.Read.{Answer, accepted, refused, success, operation}
 use Rattle.format.specs.Serialize.{Bytes}
 use Rattle.format.specs.Fields.{Form, today, old, Pair, Fields, HeaderBody, fields_of}
 use Rattle.format.specs.Context.{tolerant}
@@ -17,7 +17,6 @@ use Rattle.format.specs.Places.{body_here, body_end}
 use Rattle.format.specs.Demand3.{Writer, todays, the_old, mark_by, image_by, Stands, Gives, Sentence1}
 use Rattle.format.specs.Checks.{fits_form}
 use Rattle.format.proofs.Tests.{leb_is, is_leb}
-use Rattle.format.proofs.Exact.{Took}
 use Rattle.format.proofs.Marked.{old_has_none}
 use Rattle.format.proofs.Body.{Sent, BodyOk, sent_bytes, body_at, body_exact, fields_at, some_bytes}
 use Rattle.format.proofs.Accepts.{Good, good, accepts, body_good}

@@ -14,7 +14,7 @@ use Rattle.format.specs.Serialize.{Bytes, same_bytes}
 use Rattle.format.specs.Fields.{EncryptedDataKey, Fields, HeaderBody, fields_of}
 use Rattle.format.specs.Auth.{zeros}
 use Rattle.format.specs.Lent.{filled}
-use Rattle.format.specs.Mending.{read_draft, without_provider, dropped, dropped_image, mended}
+use Rattle.format.specs.Mending.{read_draft, without_provider, dropped_image, mended}
 use Rattle.format.specs.Mended.{Dropped, Absent}
 use Rattle.format.specs.Demand3.{Each}
 use Rattle.format.specs.Arrangement.{drop_keys, after_drop, Remains, neither, DroppedBoth, EitherOrder, AllHave, AllHaveEither, AllOfOne, SecondRefused, SomeOfBoth}

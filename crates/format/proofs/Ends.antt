@@ -1,14 +1,13 @@
 -- What stands before the context section and behind the key section is read exactly as it is written. Assumes nothing.
-use mathlib.Core.Path.{◌≡◌, refl, sym, ap, ◌∙◌}
+use mathlib.Core.Path.{◌≡◌, refl, sym, ◌∙◌}
 use mathlib.Core.Bool.{Bool, true, false, cond, ◌||◌}
-use mathlib.Core.List.{List, [], ◌∷◌, ◌++◌, append_assoc, append-nil}
+use mathlib.Core.List.{List, [], ◌∷◌, ◌++◌, append-nil}
 use Prim.Native.Nat.{ℕ, ◌+◌, ◌<◌}
 use native.Mathlib.Omega.{arith}
 use native.Mathlib.Nat.{add_assoc}
 use lib.Dec.{eqb}
 use lib.ListN.{length}
-use Rattle.format.specs.Read.{◌>>=◌, ◌>>◌, return, test}
-use Rattle.format.specs.Serialize.{Part, write_uint16, write_uint32}
+use Rattle.format.specs.Serialize.{write_uint16, write_uint32}
 use Rattle.format.specs.Shared.{one_or_two, known, of_version, id_length, iv_length, commit_key_length, read_message_format_version, read_esdk_suite_id, read_content_type}
 use Rattle.format.specs.Policies.{Policy, lets_read}
 use Rattle.format.specs.Body.{Which, asked, Lead, read_lead_of, read_lead, Opening, after_lead, read_opening, Closing, read_closing_of, read_closing, write_opening_of, write_closing_of}

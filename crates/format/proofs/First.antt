@@ -1,7 +1,7 @@
 -- Each reading operation goes by its list in specs/First. Assumes nothing.
-use mathlib.Core.Path.{◌≡◌, refl, sym, ap, ◌∙◌}
+use mathlib.Core.Path.{◌≡◌, refl, ◌∙◌}
 use mathlib.Core.Bool.{Bool, true, false, not, cond, ◌&&◌, ◌||◌}
-use mathlib.Core.Option.{Option, none, some}
+use mathlib.Core.Option.{none}
 use mathlib.Core.List.{List, [], ◌∷◌, ◌++◌, map}
 use Prim.Native.Nat.{ℕ, zero, suc, ◌+◌, ◌-◌, ◌≤◌, ◌<◌}
 use native.Mathlib.Omega.{arith}
@@ -9,14 +9,13 @@ use native.Mathlib.Nat.{add_assoc}
 use lib.Dec.{leb, ltb, eqb}
 use lib.ListN.{length, take, drop}
 use lib.Seq.{drop-cons}
-use Rattle.format.specs.Read.{Reader, ◌>>=◌, ◌>>◌, return, test, End, no_end, end_at, Answer, accepted, refused, answer, at, addressable, operation}
-use Rattle.format.specs.Serialize.{Part, read, read_uint, read_uint8, read_uint16, read_uint32, read_short_length_seq}
+use Rattle.format.specs.Read.{End, no_end, end_at}
+use Rattle.format.specs.Serialize.{read_uint, read_uint8, read_uint16, read_uint32, read_short_length_seq}
 use Rattle.format.specs.Utf8.{valid_utf8_seq}
-use Rattle.format.specs.Shared.{by, read_message_format_version, read_esdk_suite_id, read_content_type, suite_version}
 use Rattle.format.specs.Fields.{today, old, PairAt, pair_of}
 use Rattle.format.specs.Context.{Mode, is_strict, seen, read_text, read_aad_pair, read_next_aad_pair, read_aad_by, read_aad, read_aad_of, read_aad_section, form_between, mark, with_mark, read_aad_section_into}
 use Rattle.format.specs.Keys.{Max, read_encrypted_data_key, read_encrypted_data_keys_of, read_encrypted_data_keys_section, read_encrypted_data_keys_section_into}
-use Rattle.format.specs.Places.{number_here, number8, number16, number32, part_of, entry_here, entry_end, items_end, pair_here, pair_end, pairs_here, pairs_end, key_here, key_end, section_pairs, section_form, section_keys, section_keys_end}
+use Rattle.format.specs.Places.{number_here, number8, number16, number32, entry_here, entry_end, items_end, pair_here, pair_end, pairs_here, pairs_end, key_here, key_end, section_pairs, section_form, section_keys, section_keys_end}
 use Rattle.format.specs.First.{Line, lacks, when, unless, entry_list, each_list, pair_list, context_list_of, context_list, key_list, keys_list, context_into_list, keys_into_list}
 use Rattle.format.specs.Pinned.{line_number}
 use Rattle.format.proofs.Tests.{never, leb_is, nleb_is, is_leb, is_nleb, eqb_is, is_eqb, eqb_shift}

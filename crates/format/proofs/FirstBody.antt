@@ -1,26 +1,26 @@
 -- A body, find and an authentication record go by their lists; and an operation refuses by the first line that applies.
 -- Assumes nothing.
-use mathlib.Core.Path.{◌≡◌, refl, sym, ap, ◌∙◌}
+use mathlib.Core.Path.{◌≡◌, refl, sym, ◌∙◌}
 use mathlib.Core.Bool.{Bool, true, false, not, cond, ◌||◌}
 use mathlib.Core.Option.{Option, none, some}
-use mathlib.Core.List.{List, [], ◌∷◌, ◌++◌, map}
-use Prim.Native.Nat.{ℕ, ◌+◌, ◌*◌, ◌≤◌}
+use mathlib.Core.List.{List, [], ◌∷◌, map}
+use Prim.Native.Nat.{ℕ, ◌+◌}
 use native.Mathlib.Omega.{arith}
-use lib.Dec.{leb, eqb}
-use lib.ListN.{length, drop}
-use Rattle.format.specs.Read.{ReadResult, success, error, Reader, ◌>>=◌, ◌>>◌, return, test, Answer, accepted, refused, answer, at, addressable, operation}
-use Rattle.format.specs.Serialize.{Part, read, same_bytes}
-use Rattle.format.specs.Shared.{by, one_or_two, known, of_version, id_length, read_message_format_version, read_esdk_suite_id, read_content_type, suite_version, frame_fits}
-use Rattle.format.specs.Fields.{EncryptedDataKey, PairAt, EncryptedDataKeyAt, HeaderBody, pair_of}
-use Rattle.format.specs.Context.{Mode, tolerant, seen, look_up, find_value}
+use lib.Dec.{eqb}
+use lib.ListN.{drop}
+use Rattle.format.specs.Read.{ReadResult, success, Reader, ◌>>◌, return, test, Answer, accepted, refused, answer, at, addressable, operation}
+use Rattle.format.specs.Serialize.{Part, same_bytes}
+use Rattle.format.specs.Shared.{by, one_or_two, known, of_version, id_length, read_message_format_version, read_esdk_suite_id, read_content_type, suite_version}
+use Rattle.format.specs.Fields.{EncryptedDataKey, PairAt, pair_of}
+use Rattle.format.specs.Context.{tolerant, seen, look_up, find_value}
 use Rattle.format.specs.OnlyAuthenticated.{only_authenticated, fitting, write_only_authenticated}
 use Rattle.format.specs.Mending.{without_tables, read_draft, dropped_image, drop_encrypted_data_keys, added_image, add_encrypted_data_key}
 use Rattle.format.specs.Reissuing.{Reissue, reissued_image, reissued_header_body, reissue_header_body}
 use Rattle.format.specs.Policies.{Policy, lets_read}
-use Rattle.format.specs.Body.{Which, either, v1_only, Lead, read_lead_of, read_lead, Opening, after_lead, read_opening, Closing, read_closing_of, read_closing, whole, Request, after_keys, after_context, after_opening, read_body}
-use Rattle.format.specs.Auth.{HeaderAuth, zeros, read_header_auth_tag_of, read_header_auth_tag}
-use Rattle.format.specs.Places.{number8, number16, number32, part_of, entry_end, section_pairs, section_keys, section_keys_end, opening_here, closing_here, closing_end, body_here, body_end, value_of, value_here, auth_of_here, auth_here, auth_end}
-use Rattle.format.specs.First.{Line, lacks, when, unless, NoneApplies, FirstApplies, operation_list, lead_list_of, lead_list, opening_list, closing_list_of, closing_list, frame_length_here, body_list, auth_list, find_list, only_authenticated_list, FirstRefusal}
+use Rattle.format.specs.Body.{Which, either, v1_only, Lead, read_lead_of, read_lead, Opening, after_lead, read_opening, read_closing_of, read_closing, whole, Request, after_keys, after_context, after_opening, read_body}
+use Rattle.format.specs.Auth.{read_header_auth_tag_of, read_header_auth_tag}
+use Rattle.format.specs.Places.{number8, number16, part_of, entry_end, section_pairs, opening_here, closing_here, closing_end, body_here, body_end, value_of, value_here, auth_of_here, auth_here, auth_end}
+use Rattle.format.specs.First.{Line, lacks, unless, NoneApplies, FirstApplies, operation_list, lead_list_of, lead_list, opening_list, closing_list_of, closing_list, frame_length_here, body_list, auth_list, find_list, only_authenticated_list, FirstRefusal}
 use Rattle.format.specs.FirstRefusals.{drop_list, add_list, reissued_list, reissue_list, FirstRefusals}
 use Rattle.format.specs.Pinned.{line_number}
 use Rattle.format.proofs.Lines.{first_line, one_none, behind_list, none_applies, applies_none, first_applies, applies_first, Goes, goes_as, return_goes, bind_goes, test_goes, read_goes}

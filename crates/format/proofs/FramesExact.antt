@@ -7,7 +7,7 @@ use native.Mathlib.Omega.{arith}
 use lib.Dec.{leb, eqb}
 use lib.ListN.{length, length-append}
 use Rattle.format.specs.Read.{Item, followed, last}
-use Rattle.format.specs.Serialize.{Part, read, write_uint32}
+use Rattle.format.specs.Serialize.{Part, write_uint32}
 use Rattle.format.specs.Shared.{iv_length, tag_length}
 use Rattle.format.specs.Frames.{Frame, FrameAt, final_mark, next_number, write_regular_frame, write_final_frame, write_frames_from, read_sealed, read_frame_of, read_frame, read_next_frame, read_frames}
 use Rattle.format.specs.FrameLaws.{Sealed}

@@ -1,6 +1,6 @@
 -- `valid-utf8-seq` is the grammar of RFC 3629: bytes are valid exactly where they are characters, one after the other, each of which
 -- matches a row byte by byte. Assumes nothing.
-use Prim.Native.Nat.{ℕ, suc, ◌+◌, ◌≤◌, ◌<◌}
+use Prim.Native.Nat.{ℕ, suc, ◌≤◌, ◌<◌}
 use mathlib.Core.Path.{◌≡◌, refl, sym, ap, ◌∙◌, subst}
 use mathlib.Core.Bool.{Bool, true, false, cond, ◌&&◌, false≢true}
 use mathlib.Core.Logic.{◌⊎◌, inl, inr, ⊎_elim}
@@ -8,7 +8,7 @@ use mathlib.Core.List.{List, [], ◌∷◌, ◌++◌}
 use native.Mathlib.Omega.{arith}
 use lib.Dec.{leb}
 use borrow.Author.Tests.{leb-true, lt-leb}
-use Rattle.format.specs.Utf8.{Range, ◌‥◌, has, tail, rows, Due, never, due, first_byte, octets, valid_utf8_seq}
+use Rattle.format.specs.Utf8.{Range, ◌‥◌, has, rows, never, due, first_byte, octets, valid_utf8_seq}
 use Rattle.format.specs.Pinned.{Match, done, byte, In, here, there, Octets, none, char}
 use Rattle.format.proofs.Firsts.{both}
 

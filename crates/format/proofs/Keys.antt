@@ -1,12 +1,11 @@
 -- The key section is read exactly as it is written. Assumes nothing.
 use mathlib.Core.Path.{◌≡◌, refl}
-use mathlib.Core.Bool.{Bool, true, not}
-use mathlib.Core.List.{List, [], ◌∷◌, ◌++◌, append-nil, map}
+use mathlib.Core.Bool.{true, not}
+use mathlib.Core.List.{List, [], append-nil, map}
 use Prim.Native.Nat.{ℕ, ◌+◌, ◌<◌}
 use lib.Dec.{eqb}
 use lib.ListN.{length}
-use Rattle.format.specs.Read.{◌>>=◌, ◌>>◌, return, test, repeat}
-use Rattle.format.specs.Serialize.{Part, write_short_length_seq, images}
+use Rattle.format.specs.Serialize.{write_short_length_seq}
 use Rattle.format.specs.Fields.{EncryptedDataKey, EncryptedDataKeyAt, key_of}
 use Rattle.format.specs.Keys.{Max, within, write_encrypted_data_key, write_encrypted_data_keys, write_encrypted_data_keys_section, read_encrypted_data_key, read_encrypted_data_keys_of, read_encrypted_data_keys_section}
 use Rattle.format.proofs.Exact.{Exact, seq_exact, check_exact, give_exact, revalue, many_exact, Oks, puts}

@@ -1,13 +1,12 @@
 -- What taking keys out of a draft means. Assumes nothing.
 use mathlib.Core.Path.{◌≡◌, sym, ap, ◌∙◌}
 use mathlib.Core.List.{List, [], ◌++◌}
-use Prim.Native.Nat.{ℕ, ◌+◌, ◌-◌, ◌≤◌}
+use Prim.Native.Nat.{ℕ, ◌-◌, ◌≤◌}
 use native.Mathlib.Omega.{arith}
 use lib.ListN.{length, drop}
 use Rattle.format.specs.Serialize.{Bytes}
 use Rattle.format.specs.Fields.{EncryptedDataKey, Fields, HeaderBody, fields_of}
 use Rattle.format.specs.Auth.{zeros}
-use Rattle.format.specs.Checks.{each}
 use Rattle.format.specs.Lent.{filled}
 use Rattle.format.specs.Mending.{read_draft, without_provider, dropped_image, drop_encrypted_data_keys, mended}
 use Rattle.format.specs.Mended.{TakenOut, Absent, Dropped, Drops}

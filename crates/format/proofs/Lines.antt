@@ -1,20 +1,20 @@
 -- A reader goes by a list of lines: where none applies it gives what stands there, and otherwise it refuses by the first that does.
 -- The judgement composes as readers do: sequence, test, counted repetition, an enclosed section. Assumes nothing.
 use mathlib.Core.Path.{◌≡◌, refl, sym, ap, ◌∙◌}
-use mathlib.Core.Bool.{Bool, true, false, not, ◌&&◌, false≢true}
+use mathlib.Core.Bool.{Bool, true, false, not, false≢true}
 use mathlib.Core.Logic.{◌⊎◌, inl, inr, ⊎_elim}
 use mathlib.Core.Option.{Option, none, some}
 use mathlib.Core.List.{List, [], ◌∷◌, ◌++◌, append_assoc, append-nil}
 use Prim.Native.Nat.{ℕ, zero, suc, ◌+◌, ◌-◌, ◌≤◌, ◌<◌}
 use native.Mathlib.Omega.{arith}
-use lib.Dec.{leb, ltb, eqb}
+use lib.Dec.{ltb, eqb}
 use lib.ListN.{length, drop, length-drop}
 use lib.Seq.{drop-drop}
 use Rattle.format.specs.Read.{ReadResult, success, more_needed, error, Reader, go_on, ◌>>=◌, ◌>>◌, return, test, End, no_end, end_at, held, repeat, enclosed, Answer, accepted, refused, answer, at}
-use Rattle.format.specs.Serialize.{Part, read, every}
+use Rattle.format.specs.Serialize.{read, every}
 use Rattle.format.specs.Places.{part_of, items_here, items_end}
 use Rattle.format.specs.First.{Line, lacks, when, unless, held_list, NoneApplies, FirstApplies, each_list}
-use Rattle.format.proofs.Tests.{is_leb, is_nleb, is_eqb, eqb_is}
+use Rattle.format.proofs.Tests.{is_leb, is_nleb, is_eqb}
 use Rattle.format.proofs.Exact.{enclosed_fits, enclosed_short}
 use Rattle.format.proofs.Serialize.{read_fits, read_short}
 use Rattle.format.proofs.Firsts.{both, and}

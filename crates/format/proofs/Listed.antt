@@ -1,13 +1,13 @@
 -- Which refusals a reader can answer: the numbers of its tests, in their order. Assumes nothing.
 use mathlib.Core.Path.{◌≡◌, refl, sym, ◌∙◌}
-use mathlib.Core.Bool.{Bool, true, false, not, ◌&&◌, ◌||◌}
+use mathlib.Core.Bool.{Bool, true, false, not, ◌&&◌}
 use mathlib.Core.Option.{Option, none, some}
 use mathlib.Core.List.{List, [], ◌∷◌, ◌++◌, Memᴰ}
 use Prim.Native.Nat.{ℕ, ◌+◌, ◌-◌, ◌≤◌}
 use native.Mathlib.Omega.{arith}
 use lib.Dec.{eqb}
 use lib.ListN.{length, drop, length-drop}
-use Rattle.format.specs.Read.{ReadResult, success, more_needed, error, Reader, ◌>>=◌, ◌>>◌, return, test, End, no_end, end_at, Answer, refused, answer, operation}
+use Rattle.format.specs.Read.{ReadResult, success, more_needed, error, Reader, ◌>>=◌, return, End, no_end, end_at, Answer, refused, answer, operation}
 use Rattle.format.specs.Serialize.{Part, read_short_length_seq, same_bytes}
 use Rattle.format.specs.Shared.{frame_fits}
 use Rattle.format.specs.Fields.{EncryptedDataKey, PairAt, EncryptedDataKeyAt}

@@ -6,7 +6,7 @@ use mathlib.Core.Option.{Option, none, some}
 use mathlib.Core.List.{List, [], ◌∷◌, ◌++◌}
 use Prim.Native.Nat.{ℕ}
 use lib.Dec.{eqb}
-use Rattle.format.specs.Read.{Reader, ◌>>=◌, ◌>>◌, return, test}
+use Rattle.format.specs.Read.{Reader, ◌>>◌, return, test}
 use Rattle.format.specs.Shared.{read_message_format_version, read_esdk_suite_id, read_content_type}
 use Rattle.format.specs.Keys.{Max, no_max, at_most, within}
 use Rattle.format.specs.Policies.{Policy, no_policy, forbid_encrypt_allow_decrypt, require_encrypt_allow_decrypt, require_encrypt_require_decrypt, lets_read}

@@ -1,12 +1,12 @@
 -- Sentence 3: the readers of one version against the either-version reader with 20 left untested. Assumes nothing.
-use mathlib.Core.Path.{◌≡◌, refl, sym, ap, ◌∙◌}
+use mathlib.Core.Path.{◌≡◌, refl}
 use mathlib.Core.Bool.{Bool, true, false, ◌&&◌, ◌||◌, cond}
 use mathlib.Core.List.{List, [], ◌∷◌}
 use Prim.Native.Nat.{ℕ, ◌+◌, ◌*◌, ◌≤◌, ◌<◌}
 use native.Mathlib.Omega.{arith}
 use lib.Dec.{leb, eqb}
 use lib.ListN.{length, take, drop, drop_of_length-le}
-use Rattle.format.specs.Read.{ReadResult, success, more_needed, error, Reader, go_on, ◌>>=◌, ◌>>◌, return, test, Answer, accepted, refused, answer, operation}
+use Rattle.format.specs.Read.{ReadResult, success, more_needed, error, Reader, go_on, ◌>>=◌, ◌>>◌, return, test, refused, answer, operation}
 use Rattle.format.specs.Serialize.{read_uint, read_uint8, same_bytes}
 use Rattle.format.specs.Shared.{read_message_format_version}
 use Rattle.format.specs.Fields.{HeaderBody}

@@ -7,7 +7,7 @@ use Prim.Native.Nat.{ℕ, zero, suc, ◌+◌, ◌≤◌}
 use native.Mathlib.Omega.{arith}
 use lib.Dec.{leb}
 use lib.ListN.{length, take, drop, length-append}
-use Rattle.format.specs.Read.{◌>>◌, return, test, Answer, accepted, refused, answer, operation}
+use Rattle.format.specs.Read.{◌>>◌, return, test, Answer, accepted, refused, answer}
 use Rattle.format.specs.Serialize.{write_uint16, images}
 use Rattle.format.specs.Fields.{Form, today, old, Pair, pair_of, Fields, with_pairs}
 use Rattle.format.specs.Context.{seen, pair_length, linear_length, write_aad_pairs, write_aad, write_empty_ec_or_write_aad, write_expanded_aad_section, write_aad_section, section_in, tolerant, read_aad_section}

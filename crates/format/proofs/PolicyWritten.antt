@@ -3,9 +3,9 @@ use mathlib.Core.Path.{◌≡◌, refl, sym, ◌∙◌}
 use mathlib.Core.Bool.{Bool, true, false, not, cond}
 use mathlib.Core.Option.{Option, none, some}
 use mathlib.Core.List.{List, ◌∷◌, ◌++◌}
-use Prim.Native.Nat.{ℕ, ◌+◌}
+use Prim.Native.Nat.{ℕ}
 use native.Mathlib.Omega.{arith}
-use Rattle.format.specs.Read.{refused, answer}
+use Rattle.format.specs.Read.{refused}
 use Rattle.format.specs.Policies.{Policy, no_policy, lets_write}
 use Rattle.format.specs.Checks.{Check, check, first, lead_checks, body_checks_under}
 use Rattle.format.specs.Lent.{written_of, written, size_of, output_of, output_after, refusal_of, BodyToWrite, fields_to_write, writing_header_body_under, writing_header_body}

@@ -1,32 +1,31 @@
 -- The sections and the authentication record as operations of their own: each accepts just what is written. Assumes nothing.
 use mathlib.Core.Path.{◌≡◌, refl, sym, ap, ◌∙◌}
 use mathlib.Core.Bool.{Bool, true, false, cond}
-use mathlib.Core.Option.{none}
 use mathlib.Core.List.{List, [], ◌∷◌, ◌++◌, append-nil, map}
 use Prim.Native.Nat.{ℕ, ◌+◌, ◌*◌, ◌-◌, ◌≤◌, ◌<◌}
 use native.Mathlib.Omega.{arith}
 use native.Mathlib.Nat.{zero-add}
 use lib.Dec.{leb, eqb}
 use lib.ListN.{length, drop, replicate, length-append, length-drop}
-use Rattle.format.specs.Read.{Reader, success, ◌>>=◌, ◌>>◌, return, test, accepted, operation}
+use Rattle.format.specs.Read.{Reader, accepted, operation}
 use Rattle.format.specs.Serialize.{Bytes, images, write_uint16}
-use Rattle.format.specs.Shared.{suites, version_in, SuiteRow, suite_version, known, iv_length, tag_length}
+use Rattle.format.specs.Shared.{suite_version, known, iv_length, tag_length}
 use Rattle.format.specs.Fields.{Form, today, old, Pair, PairAt, pair_of, pair_places, EncryptedDataKey, EncryptedDataKeyAt, key_of, key_places}
 use Rattle.format.specs.Context.{section_in, write_aad_section, write_expanded_aad_section, write_aad_pair, Mode, read_aad_section_into}
 use Rattle.format.specs.Keys.{Max, within, write_encrypted_data_key, write_encrypted_data_keys_section, read_encrypted_data_keys_section_into}
 use Rattle.format.specs.Auth.{HeaderAuth, zeros, read_header_auth_tag_of, read_header_auth_tag, write_header_auth_tag}
-use Rattle.format.specs.Checks.{first, pairs_checks, keys_checks, auth_checks}
-use Rattle.format.specs.Lent.{filled, pairs_in, keys_in, table_checks, Writing, written, output_after, writing_aad_section, writing_encrypted_data_keys_section}
+use Rattle.format.specs.Checks.{pairs_checks, keys_checks, auth_checks}
+use Rattle.format.specs.Lent.{filled, pairs_in, keys_in, table_checks, written, output_after, writing_aad_section, writing_encrypted_data_keys_section}
 use Rattle.format.specs.Demand3.{Held, Each}
-use Rattle.format.specs.Sections.{ContextStands, ContextLaw, KeysStand, KeysLaw, AuthStands, AuthLaw, SectionLaws}
+use Rattle.format.specs.Sections.{ContextStands, ContextLaw, KeysStand, KeysLaw, AuthLaw, SectionLaws}
 use Rattle.format.proofs.Tests.{leb_is, is_leb, eqb_is, is_eqb}
-use Rattle.format.proofs.Exact.{Took, Exact, seq_exact, check_exact, check_as, give_exact, revalue, length_puts, map_puts}
+use Rattle.format.proofs.Exact.{Exact, seq_exact, check_exact, check_as, give_exact, revalue, length_puts, map_puts}
 use Rattle.format.proofs.Serialize.{read_exact}
 use Rattle.format.proofs.Context.{pair_at, Context, ContextOk, context_bytes, context_at, both_allow}
 use Rattle.format.proofs.Section.{section_exact}
 use Rattle.format.proofs.Keys.{key_at, KeysOk, keys_at, keys_exact}
 use Rattle.format.proofs.Suites.{version_2}
-use Rattle.format.proofs.Firsts.{Holds, holds, unheld, split}
+use Rattle.format.proofs.Firsts.{holds, unheld, split}
 use Rattle.format.proofs.Accepts.{pairs_then, then_pairs, keys_then, then_keys}
 use Rattle.format.proofs.Messages.{accepted_took, operation_here}
 use Rattle.format.proofs.Held.{context_held, keys_held}

@@ -8,7 +8,7 @@ use native.Mathlib.Nat.{add_assoc}
 use lib.Dec.{leb}
 use lib.ListN.{length, take, drop, length-append, take-append-drop}
 use lib.Seq.{take_at, drop_at, length-take-le}
-use Rattle.format.specs.Read.{success, more_needed, ◌>>=◌, ◌>>◌, return, no_end, held}
+use Rattle.format.specs.Read.{success, more_needed, ◌>>=◌, return, no_end}
 use Rattle.format.specs.Serialize.{Bytes, Part, read, number_from, number, read_uint, write_uint, read_uint8, read_uint16, write_uint16, read_uint32, write_uint32, read_short_length_seq, write_short_length_seq, entry_length, images, sum, every}
 use Rattle.format.proofs.Tests.{leb_is, nleb_is, is_leb, is_nleb}
 use Rattle.format.proofs.Exact.{Took, Exact, seq_exact, free_exact, give_exact, revalue, revalue_bytes, more_is_no_success}

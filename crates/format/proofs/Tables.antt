@@ -9,7 +9,7 @@ use native.Mathlib.Omega.{arith}
 use lib.ListN.{length, get_or}
 use Rattle.format.specs.Serialize.{every}
 use Rattle.format.specs.Checks.{first}
-use Rattle.format.specs.Lent.{bytes_at, items, here, part_in, parts_in, places, in_text, table_checks}
+use Rattle.format.specs.Lent.{bytes_at, items, here, part_in, parts_in, in_text, table_checks}
 use Rattle.format.specs.Lengths.{JustWhere}
 use Rattle.format.specs.Pinned.{InText}
 use Rattle.format.proofs.Tests.{leb_is, is_leb, eqb_is, is_eqb}

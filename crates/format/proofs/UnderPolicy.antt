@@ -7,7 +7,6 @@ use mathlib.Core.List.{List}
 use Prim.Native.Nat.{ℕ, ◌*◌, ◌≤◌, ◌<◌}
 use lib.ListN.{length}
 use Rattle.format.specs.Read.{accepted, operation}
-use Rattle.format.specs.Serialize.{read}
 use Rattle.format.specs.Fields.{HeaderBody}
 use Rattle.format.specs.Context.{tolerant}
 use Rattle.format.specs.Keys.{Max, within}

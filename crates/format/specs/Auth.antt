@@ -1,5 +1,5 @@
 -- HeaderAuth.dfy: the authentication record of a suite, read and written. Assumes nothing.
-use Rattle.std.specs.Prelude.{Bool, true, false, cond, List, [], ◌∷◌, ◌++◌, ℕ, eqb, replicate}
+use Rattle.std.specs.Prelude.{Bool, true, false, cond, List, ◌++◌, ℕ, eqb, replicate}
 use Rattle.format.specs.Read.{Reader, ◌>>=◌, ◌>>◌, return, test, Answer, accepted, refused}
 use Rattle.format.specs.Serialize.{read}
 use Rattle.format.specs.Shared.{suite_version, known, iv_length, tag_length}

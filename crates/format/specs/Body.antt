@@ -4,7 +4,7 @@ use Rattle.format.specs.Read.{Reader, ◌>>=◌, ◌>>◌, return, test}
 use Rattle.format.specs.Serialize.{Part, read, read_uint8, read_uint32, write_uint16, write_uint32}
 use Rattle.format.specs.Shared.{id_length, iv_length, commit_key_length, read_message_format_version, read_esdk_suite_id, read_content_type, frame_fits}
 use Rattle.format.specs.Fields.{Form, EncryptedDataKeyAt, Fields, HeaderBody}
-use Rattle.format.specs.Context.{Mode, tolerant, strict, ContextAt, section_in, read_aad_section, with_mark}
+use Rattle.format.specs.Context.{Mode, ContextAt, section_in, read_aad_section, with_mark}
 use Rattle.format.specs.Keys.{Max, at_most, within, write_encrypted_data_keys_section, read_encrypted_data_keys_section}
 use Rattle.format.specs.Policies.{Policy, no_policy, lets_read}
 

@@ -1,6 +1,6 @@
 -- The lists of the operations on drafts; and that every operation refuses by the first line that applies of its list. It is proved in
 -- proofs/FirstBody. Assumes nothing.
-use Rattle.std.specs.Prelude.{List, [], ◌∷◌, ◌++◌, ℕ, ◌+◌, ◌-◌, leb, eqb, length}
+use Rattle.std.specs.Prelude.{List, [], ◌∷◌, ◌++◌, ℕ, leb, eqb, length}
 use Rattle.format.specs.Utf8.{valid_utf8_seq}
 use Rattle.format.specs.Shared.{known, of_version, frame_fits}
 use Rattle.format.specs.Fields.{EncryptedDataKey}

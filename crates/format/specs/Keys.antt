@@ -1,5 +1,5 @@
 -- EncryptedDataKeys.dfy: the key section, read and written. Assumes nothing.
-use Rattle.std.specs.Prelude.{Bool, true, not, List, [], ◌∷◌, ◌++◌, ℕ, ◌*◌, leb, eqb, length}
+use Rattle.std.specs.Prelude.{Bool, true, not, List, [], ◌++◌, ℕ, ◌*◌, leb, eqb, length}
 use Rattle.format.specs.Read.{Reader, ◌>>=◌, ◌>>◌, return, test, no_end, repeat}
 use Rattle.format.specs.Serialize.{read_uint16, write_uint16, read_short_length_seq, write_short_length_seq, images}
 use Rattle.format.specs.Fields.{EncryptedDataKey, EncryptedDataKeyAt}

@@ -1,7 +1,7 @@
 -- SharedHeaderFunctions.dfy: versions, suites, message IDs, content types. Assumes nothing.
-use Rattle.std.specs.Prelude.{Bool, true, false, cond, ◌&&◌, ◌||◌, not, List, [], ◌∷◌, ℕ, eqb}
+use Rattle.std.specs.Prelude.{Bool, cond, ◌&&◌, ◌||◌, not, List, [], ◌∷◌, ℕ, eqb}
 use Rattle.format.specs.Read.{Reader, ◌>>=◌, ◌>>◌, return, test}
-use Rattle.format.specs.Serialize.{Part, read, read_uint8, read_uint16}
+use Rattle.format.specs.Serialize.{read_uint8, read_uint16}
 
 -- by version: the first where it is 1, else the second
 abbrev pub by : ℕ → ℕ → ℕ → ℕ

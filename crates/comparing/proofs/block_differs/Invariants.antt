@@ -1,5 +1,4 @@
 use Prim.Native.Nat.{◌-◌, ◌≤◌}
-use Rattle.comparing.proofs.CompareLaws.{alike_none, alike_more, alike_all}
 use Rattle.comparing.specs.Order.{Alike}
 use Rattle.comparing.proofs.block_differs.Given as goal
 

@@ -1,5 +1,4 @@
 use Prim.Native.Nat.{◌-◌}
-use Rattle.comparing.proofs.CompareLaws.{agree_block, halted_end, halted_block}
 use Rattle.comparing.specs.Order.{Agree}
 use Rattle.comparing.proofs.blocks_agree.Given as goal
 

@@ -1,5 +1,4 @@
 use Prim.Native.Nat.{◌-◌}
-use Rattle.comparing.proofs.CompareLaws.{agree_byte, stopped_end, stopped_byte}
 use Rattle.comparing.specs.Order.{Agree}
 use Rattle.comparing.proofs.bytes_agree.Given as goal
 

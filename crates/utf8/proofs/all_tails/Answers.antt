@@ -1,7 +1,4 @@
 use Rattle.std.proofs.Common.{rules}
-use Prim.Native.Nat.{◌+◌, ◌-◌, ◌≤◌}
-use mathlib.Core.Path.{◌≡◌}
-use lib.ListN.{drop}
 use Rattle.utf8.proofs.Utf8Laws.{tails_start, tails_more, tails_stop, tails_all}
 use Rattle.format.specs.Utf8.{due, octets}
 use Rattle.utf8.specs.Scan.{tails}

@@ -1,5 +1,4 @@
 use Prim.Native.Nat.{◌-◌, ◌≤◌}
-use Rattle.utf8.proofs.Utf8Laws.{low_none, low_more, low_all}
 use Rattle.utf8.specs.Scan.{Low}
 use Rattle.utf8.proofs.block_high.Given as goal
 

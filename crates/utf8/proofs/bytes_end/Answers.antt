@@ -1,8 +1,5 @@
 use Rattle.std.proofs.Common.{rules}
-use Prim.Native.Nat.{◌-◌}
-use lib.ListN.{length}
 use Rattle.utf8.proofs.Utf8Laws.{passed_none, byte_more}
-use Rattle.utf8.specs.Scan.{Passed}
 use Rattle.utf8.proofs.bytes_end.Goals as goal
 
 ruleset laws = (passed_none, byte_more, rules)

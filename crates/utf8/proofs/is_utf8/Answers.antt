@@ -1,8 +1,5 @@
 use Rattle.std.proofs.Common.{rules}
-use Prim.Native.Nat.{◌-◌}
-use lib.ListN.{length}
 use Rattle.utf8.proofs.Utf8Laws.{passed_none, passed_on, char_none, char_some, all_passed}
-use Rattle.utf8.specs.Scan.{Passed}
 use Rattle.utf8.proofs.is_utf8.Goals as goal
 
 ruleset laws = (passed_none, passed_on, char_none, char_some, all_passed, rules)

@@ -1,6 +1,5 @@
 use Prim.Native.Nat.{◌-◌}
 use lib.ListN.{length}
-use Rattle.utf8.proofs.Utf8Laws.{passed_none, passed_on, char_none, char_some, all_passed}
 use Rattle.utf8.specs.Scan.{Passed}
 use Rattle.utf8.proofs.is_utf8.Given as goal
 

@@ -1,6 +1,5 @@
 use Prim.Native.Nat.{◌-◌}
 use lib.ListN.{length}
-use Rattle.utf8.proofs.Utf8Laws.{passed_none, two_more}
 use Rattle.utf8.specs.Scan.{Passed}
 use Rattle.utf8.proofs.twos_end.Given as goal
 

@@ -1,0 +1,11 @@
+use Rattle.std.proofs.Common.{rules}
+use Rattle.wire.proofs.Answers.{span_as, not_span, near, opened, guarded}
+use Rattle.wire.proofs.operations.read_entry.Goals as goal
+
+ruleset laws = (span_as, not_span, near, opened, guarded, rules)
+
+pub returns-then-is_addressable : goal.returns-then-is_addressable
+returns-then-is_addressable c = search laws
+
+pub returns : goal.returns
+returns c = search laws
