@@ -7,7 +7,7 @@ use native.Mathlib.Omega.{arith}
 use lib.ListN.{length}
 use Rattle.format.specs.Serialize.{Part, images}
 use Rattle.format.specs.Fields.{pair_places, key_places}
-use Rattle.format.specs.Places.{items_here, items_end, entries_here, entries_end, pair_here, pair_end, key_here, key_end}
+use Rattle.format.specs.Places.{items_here, items_end, entry_here, entry_end, entries_here, entries_end, pair_here, pair_end, key_here, key_end}
 
 pub one_less : (n i : ℕ) → i < n → n - i ≡ suc (n - (i + 1))
 one_less n i h = omega arith
@@ -66,14 +66,14 @@ module _ {A : Type 0} {here : List ℕ → ℕ → A} {end : List ℕ → ℕ �
   pub end_entries : (n s : ℕ) → items_end end m n s ≡ entries_end m (k * n) s
   unfolding items_end
   end_entries zero s = sym (ap (λ (i : ℕ). entries_end m i s) (mul-zero k))
-  end_entries (suc n) s = ap (items_end end m n) (made.ends m s) ∙ end_entries n (entries_end m k s) ∙ sym (ap (λ (i : ℕ). entries_end m i s) (times k n) ∙ end_join _ m k (k * n) s)
+  end_entries (suc n) s = ap (items_end end m n) (made.ends m s) ∙ end_entries n (entries_end m k s) ∙ sym (ap (λ (i : ℕ). entries_end m i s) (times k n) ∙ end_join entry_end m k (k * n) s)
 
   pub here_entries : (n s : ℕ) → images places (items_here here end m n s) ≡ entries_here m (k * n) s
   unfolding items_here images
   here_entries zero s = sym (ap (λ (i : ℕ). entries_here m i s) (mul-zero k))
   here_entries (suc n) s =
       ap₂ ◌++◌ (made.are m s) (ap (λ (t : ℕ). images places (items_here here end m n t)) (made.ends m s) ∙ here_entries n (entries_end m k s))
-      ∙ sym (ap (λ (i : ℕ). entries_here m i s) (times k n) ∙ here_join _ _ m k (k * n) s)
+      ∙ sym (ap (λ (i : ℕ). entries_here m i s) (times k n) ∙ here_join entry_here entry_end m k (k * n) s)
 
 pub pairs_made : Made pair_here pair_end pair_places 2
 unfolding items_end items_here

@@ -7,8 +7,14 @@ ghost use Rattle.io.specs.Counts.{IsPrefixLen};
 ghost use Rattle.listing_text.specs.Listing.{listing};
 
 use checks::WriteAnswer;
-use libc::{STDERR_FILENO, STDIN_FILENO, STDOUT_FILENO};
 use listing_text::write_listing;
+
+// The standard streams, by the C library's numbers.
+const STDIN_FILENO: i32 = 0;
+
+const STDOUT_FILENO: i32 = 1;
+
+const STDERR_FILENO: i32 = 2;
 
 // The length of the listing, with which `out` then begins. So long an output has room for it whatever the message is, so that
 // nothing is refused.

@@ -1,0 +1,8 @@
+use Rattle.index.proofs.Moved.{Moved, moved_start, moved_more, moved_end}
+use Rattle.index.proofs.insert.Given as goal
+
+abbrev pub invariant-loop-j : goal.invariant-loop-j
+invariant-loop-j l = Moved l.initial.index l.index l.p l.n l.j
+
+abbrev pub decreases-loop-j : goal.decreases-loop-j
+decreases-loop-j l = l.j
