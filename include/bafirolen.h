@@ -4,7 +4,7 @@
  * signed, encrypted or decrypted: that a header or a frame is accepted says how it is built, and not whose it is.
  *
  * Link libbafirolen_c.a: code for x86-64 and the System V calling convention (Linux). It calls memcpy and memset, and nothing
- * else. In the repository `rt staticlib bafirolen_c` writes it into target/staticlib, and hosts/c has examples.
+ * else. In the repository `tools/archives` writes it into target/staticlib, and hosts/c has examples.
  *
  * THE SHORTEST USE. bafirolen_header_number says of the bytes at a start whether a header is there (0) or why not, and
  * bafirolen_header_position where it ends, or how many bytes are wanted. A host that wants the fields calls

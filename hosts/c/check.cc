@@ -6,7 +6,7 @@
  * frames are read, gone through, measured and written again. Writes `compared N cases`; a difference is written to standard error,
  * and the exit status is 1.
  *
- *     rt staticlib bafirolen_c
+ *     tools/archives
  *     g++ -std=c++11 -O2 -Wall -Wextra -Wpedantic -Iinclude hosts/c/check.cc target/staticlib/libbafirolen_c.a -o target/check
  */
 #include "bafirolen.h"

@@ -3,7 +3,7 @@
  * of two stations are dropped in either order (in_turn.h). What is wanted was worked out by hand. Each part is an allocation of
  * exactly the bytes that are lent. Writes `compared N cases`; a difference is written to standard error, and the exit status is 1.
  *
- *     rt staticlib bafirolen_c
+ *     tools/archives
  *     gcc -std=c99 -O2 -Wall -Wextra -Iinclude hosts/c/check_arrangements.c target/staticlib/libbafirolen_c.a \
  *         -o target/check_arrangements
  *     valgrind --error-exitcode=1 target/check_arrangements

@@ -4,7 +4,7 @@
  * cut and damaged; and how many rounds they take. Each part is an allocation of exactly the bytes that are lent. Writes `compared N
  * cases`; a difference is written to standard error, and the exit status is 1.
  *
- *     rt staticlib bafirolen_c
+ *     tools/archives
  *     gcc -std=c99 -O2 -Wall -Wextra -Iinclude hosts/c/check_fetch.c target/staticlib/libbafirolen_c.a -o target/check_fetch
  *     valgrind --error-exitcode=1 target/check_fetch
  */

@@ -4,7 +4,7 @@
  * whatever the pairs are refused by, and before the keys. Writes `compared N cases`; a difference is written to standard error,
  * and the exit status is 1.
  *
- *     rt staticlib bafirolen_c
+ *     tools/archives
  *     gcc -std=c99 -O2 -Wall -Wextra -Iinclude hosts/c/check_forms.c target/staticlib/libbafirolen_c.a -o target/check_forms
  */
 #include "compare.h"

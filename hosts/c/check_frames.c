@@ -2,7 +2,7 @@
  * A host in C: calls bafirolen_read_frames, as check_readers.c calls the other operations that read; check_frames_written.c has the
  * writer of frames. What is wanted was worked out by hand.
  *
- *     rt staticlib bafirolen_c
+ *     tools/archives
  *     gcc -std=c99 -O2 -Wall -Wextra -Iinclude hosts/c/check_frames.c target/staticlib/libbafirolen_c.a -o target/check_frames
  */
 #include "compare.h"

@@ -5,7 +5,7 @@
  * read again. The small images were worked out by hand. Writes `compared N cases`; a difference is written to standard error, and
  * the exit status is 1.
  *
- *     rt staticlib bafirolen_c
+ *     tools/archives
  *     gcc -std=c99 -O2 -Wall -Wextra -Iinclude hosts/c/check_frames_written.c target/staticlib/libbafirolen_c.a -o target/written
  *     valgrind --error-exitcode=1 target/written
  */

@@ -4,7 +4,7 @@
  * which is refused by 28; and what the length is refused by, the writer answers without room and with plenty. Writes `compared N
  * cases`; a difference is written to standard error, and the exit status is 1.
  *
- *     rt staticlib bafirolen_c
+ *     tools/archives
  *     gcc -std=c99 -O2 -Wall -Wextra -Iinclude hosts/c/check_lengths.c target/staticlib/libbafirolen_c.a -o target/check_lengths
  *     valgrind --error-exitcode=1 target/check_lengths
  */

@@ -4,7 +4,7 @@
  * lent, and the tables and outputs keep theirs. check_lengths.c has bodies that are to be written without a key. Writes `compared N
  * cases`; a difference is written to standard error, and the exit status is 1.
  *
- *     rt staticlib bafirolen_c
+ *     tools/archives
  *     gcc -std=c99 -O2 -Wall -Wextra -Iinclude hosts/c/check_no_key.c target/staticlib/libbafirolen_c.a -o target/check_no_key
  *     valgrind --error-exitcode=1 target/check_no_key
  */

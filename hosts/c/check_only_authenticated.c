@@ -2,7 +2,7 @@
  * A host in C: calls bafirolen_write_only_authenticated, as check_writers.c calls the other operations that write. What is wanted
  * was worked out by hand.
  *
- *     rt staticlib bafirolen_c
+ *     tools/archives
  *     gcc -std=c99 -O2 -Wall -Wextra -Iinclude hosts/c/check_only_authenticated.c target/staticlib/libbafirolen_c.a \
  *         -o target/check_only_authenticated
  */

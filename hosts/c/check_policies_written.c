@@ -4,7 +4,7 @@
  * one. Each part is an allocation of exactly the bytes that are lent, and so is the output. Writes `compared N cases`; a difference
  * is written to standard error, and the exit status is 1.
  *
- *     rt staticlib bafirolen_c
+ *     tools/archives
  *     gcc -std=c99 -O2 -Wall -Wextra -Iinclude hosts/c/check_policies_written.c target/staticlib/libbafirolen_c.a \
  *         -o target/check_policies_written
  *     valgrind --error-exitcode=1 target/check_policies_written

@@ -4,7 +4,7 @@
  * error, and the exit status is 1. check_writers.c does the same for what writes, and for reading authentication records,
  * check_frames.c for reading frames, and check_no_key.c for reading what has no encrypted data key.
  *
- *     rt staticlib bafirolen_c
+ *     tools/archives
  *     gcc -std=c99 -O2 -Wall -Wextra -Iinclude hosts/c/check_readers.c target/staticlib/libbafirolen_c.a -o target/check_readers
  */
 #include "compare.h"

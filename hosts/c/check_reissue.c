@@ -4,7 +4,7 @@
  * handed on, and what was added. Each part is an allocation of exactly the bytes that are lent. check_reissue_refused.c has what is
  * refused. Writes `compared N cases`; a difference is written to standard error, and the exit status is 1.
  *
- *     rt staticlib bafirolen_c
+ *     tools/archives
  *     gcc -std=c99 -O2 -Wall -Wextra -Iinclude hosts/c/check_reissue.c target/staticlib/libbafirolen_c.a -o target/check_reissue
  *     valgrind --error-exitcode=1 target/check_reissue
  */

@@ -4,7 +4,7 @@
  * that reader answers it; then 20, and 6, 7, 24, 25 and 28 of what is added. Each part is an allocation of exactly the bytes that
  * are lent. Writes `compared N cases`; a difference is written to standard error, and the exit status is 1.
  *
- *     rt staticlib bafirolen_c
+ *     tools/archives
  *     gcc -std=c99 -O2 -Wall -Wextra -Iinclude hosts/c/check_reissue_refused.c target/staticlib/libbafirolen_c.a \
  *         -o target/check_reissue_refused
  *     valgrind --error-exitcode=1 target/check_reissue_refused

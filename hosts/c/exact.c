@@ -3,7 +3,7 @@
  * a read or a store beyond one. What is answered there is compared with the answer on buffers with room behind them. Writes
  * `compared N cases`; a difference is written to standard error, and the exit status is 1.
  *
- *     rt staticlib bafirolen_c
+ *     tools/archives
  *     gcc -std=c99 -O2 -Wall -Wextra -Iinclude hosts/c/exact.c target/staticlib/libbafirolen_c.a -o target/exact_c
  *     valgrind --error-exitcode=1 target/exact_c
  */

@@ -4,7 +4,7 @@
  * some of it is compared with what documents 01 and 02 say. Writes `compared N cases`; a difference is written to standard error,
  * and the exit status is 1.
  *
- *     rt staticlib bafirolen_c
+ *     tools/archives
  *     gcc -std=c99 -O2 -Wall -Wextra -Iinclude hosts/c/null.c target/staticlib/libbafirolen_c.a -o target/null
  *     valgrind --error-exitcode=1 target/null
  */

@@ -4,7 +4,7 @@
  * export took, the frame of the function that calls it included, and `compared N cases`; a difference is written to standard
  * error, an export that takes more than was promised likewise, and the exit status is 1. It runs without valgrind.
  *
- *     rt staticlib bafirolen_c
+ *     tools/archives
  *     gcc -std=c99 -O2 -Wall -Wextra -Iinclude hosts/c/stack.c target/staticlib/libbafirolen_c.a -lpthread -o target/stack
  */
 #define _GNU_SOURCE

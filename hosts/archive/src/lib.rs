@@ -23,7 +23,7 @@ pub fn link(library: &str) {
     if !path.is_file() {
         println!(
             "cargo::error=target/staticlib/{archive} is missing: \
-             run `rt staticlib {library}` at the root of the repository, then cargo again"
+             run `tools/archives` at the root of the repository, then cargo again"
         );
         return;
     }

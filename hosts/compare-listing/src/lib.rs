@@ -17,7 +17,7 @@ fn start() -> Child {
         .stdout(Stdio::piped())
         .spawn()
         .unwrap_or_else(|error| {
-            panic!("target/bin/listing: {error}; `rt check listing` at the root writes it")
+            panic!("target/bin/listing: {error}; `./demo` at the root writes it")
         })
 }
 
