@@ -1,17 +1,16 @@
 -- The ways out of the functions that read an authentication record, one law each. Assumes nothing.
 use mathlib.Core.Path.{◌≡◌, refl, sym, ap, ◌∙◌}
 use mathlib.Core.Bool.{Bool, true, false}
-use mathlib.Core.List.{List, [], ◌++◌, append-nil}
+use mathlib.Core.List.{List, append-nil}
 use Prim.Native.Nat.{ℕ, ◌+◌, ◌-◌, ◌≤◌, ◌<◌}
-use native.Mathlib.Nat.{zero-add}
 use native.Mathlib.Omega.{arith}
 use borrow.Author.Tests.{leb-true, leb-false, eq-eqb, ne_eqb}
 use lib.Dec.{leb, eqb}
-use lib.ListN.{length, take, drop, replicate, drop_of_length-le}
-use Rattle.format.specs.Read.{Reader, Answer, accepted, refused, at, operation, addressable}
+use lib.ListN.{length, replicate, drop_of_length-le}
+use Rattle.format.specs.Read.{Answer, accepted, refused, at, operation, addressable}
 use Rattle.format.specs.Serialize.{Part, read}
 use Rattle.format.specs.Shared.{suite_version}
-use Rattle.format.specs.Auth.{HeaderAuth, zeros, read_header_auth_tag_of, read_header_auth_tag, header_auth_of}
+use Rattle.format.specs.Auth.{HeaderAuth, zeros, read_header_auth_tag_of, read_header_auth_tag}
 use Rattle.format.specs.Lent.{bytes_at}
 use Rattle.format.specs.Places.{part_of}
 use Rattle.steps.proofs.Tidy.{read_tidy}

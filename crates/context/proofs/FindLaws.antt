@@ -7,7 +7,7 @@ use native.Mathlib.Nat.{sub-zero, add-sub_cancel_left}
 use native.Mathlib.Omega.{arith}
 use denote.Ref.{Bor}
 use lib.ListN.{length, take, drop}
-use Rattle.format.specs.Read.{Answer, accepted, refused, at, operation, addressable}
+use Rattle.format.specs.Read.{accepted, refused, at, operation, addressable}
 use Rattle.format.specs.Serialize.{Part, same_bytes}
 use Rattle.format.specs.Fields.{PairAt}
 use Rattle.format.specs.Context.{tolerant, read_aad_section, look_up, find_value}

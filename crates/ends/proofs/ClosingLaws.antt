@@ -6,7 +6,6 @@ use mathlib.Core.Bool.{Bool, true, false}
 use mathlib.Core.List.{List}
 use borrow.Author.Tests.{eq-eqb, ne_eqb}
 use lib.Dec.{eqb}
-use lib.ListN.{length}
 use Rattle.format.specs.Read.{Answer, accepted, refused, at}
 use Rattle.format.specs.Serialize.{read, read_uint8, read_uint32}
 use Rattle.format.specs.Shared.{read_content_type}
@@ -19,7 +18,7 @@ use Rattle.wire.specs.declared.Number.{Number}
 use Rattle.wire.specs.declared.Number.TheVariants as number
 use Rattle.wire.specs.declared.Span.{Span}
 use Rattle.wire.specs.declared.Span.TheVariants as span
-use Rattle.wire.proofs.Answers.{number_got, number_no, Given, span_got, span_no}
+use Rattle.wire.proofs.Answers.{number_got, number_no, span_got, span_no}
 use Rattle.ends.specs.Codes.{closing_code, closing_of, why_closing}
 use Rattle.ends.specs.declared.Closing.{Closing}
 use Rattle.ends.specs.declared.ClosingAnswer.{ClosingAnswer}

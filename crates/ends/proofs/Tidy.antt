@@ -4,14 +4,13 @@ use mathlib.Core.Path.{◌≡◌}
 use mathlib.Core.Bool.{Bool, true, false}
 use mathlib.Core.List.{List}
 use native.Mathlib.Omega.{arith}
-use lib.Dec.{eqb}
 use lib.ListN.{length}
 use Rattle.format.specs.Read.{Reader, ◌>>=◌, accepted, at}
 use Rattle.format.specs.Serialize.{read_uint8, read_uint16, read_uint32}
 use Rattle.format.specs.Shared.{read_message_format_version, read_esdk_suite_id, read_content_type}
 use Rattle.format.specs.Policies.{Policy}
 use Rattle.format.specs.Body.{Which, Lead, read_lead_of, read_lead, after_lead, read_opening, read_closing_of, read_closing}
-use Rattle.steps.proofs.Tidy.{Tidy, tidy, bind_tidy, then_tidy, test_tidy, uint8_tidy, uint16_tidy, uint32_tidy}
+use Rattle.steps.proofs.Tidy.{Tidy, tidy}
 use Rattle.steps.proofs.Steps.{un_bind, inside}
 use Rattle.steps.proofs.Numbers.{uint8_known, uint16_known, uint32_known}
 

@@ -6,7 +6,7 @@ use native.Mathlib.Nat.{sub-zero}
 use native.Mathlib.Numerals.{add-one}
 use native.Mathlib.Omega.{arith}
 use lib.ListN.{length}
-use Rattle.format.specs.Read.{Reader, Answer, accepted, refused, repeat, at}
+use Rattle.format.specs.Read.{Reader, accepted, repeat, at}
 use Rattle.steps.proofs.Tidy.{Tidy}
 use Rattle.steps.proofs.Steps.{un_return, un_repeat, all_read, one_more, one_stops}
 use Rattle.wire.specs.declared.Refusal.{Refusal}
@@ -16,7 +16,7 @@ use Rattle.entries.specs.Walk.{Walk}
 use Rattle.entries.specs.declared.Next.{Next}
 use Rattle.entries.specs.declared.Next.TheVariants as next
 use Rattle.entries.proofs.Items.{one_less, here_length, here_snoc, end_snoc}
-use Rattle.entries.proofs.Answers.{Went, next_got, next_no}
+use Rattle.entries.proofs.Answers.{next_got, next_no}
 
 -- the item read is what stands there
 pub record Known {A : Type 0} (here : List ℕ → ℕ → A) (end : List ℕ → ℕ → ℕ) (m : List ℕ) (s : ℕ) (a : A) (t : ℕ) : Type 0 where

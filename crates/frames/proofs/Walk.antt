@@ -5,7 +5,7 @@ use mathlib.Core.List.{List, [], ◌∷◌, ◌++◌}
 use Prim.Native.Nat.{ℕ, ◌+◌, ◌-◌, ◌≤◌, ◌<◌}
 use native.Mathlib.Omega.{arith}
 use lib.ListN.{length, length-append}
-use Rattle.format.specs.Read.{followed, last, at, run}
+use Rattle.format.specs.Read.{followed, at, run}
 use Rattle.format.specs.Frames.{FrameAt, next_number, read_frame, read_next_frame, read_frames}
 use Rattle.format.proofs.Frames.{frames_unbounded}
 use Rattle.steps.proofs.Runs.{run_more, run_ends, run_stops}

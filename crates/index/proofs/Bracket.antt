@@ -1,7 +1,7 @@
 -- The search in an index, by halves. Assumes nothing.
-use Prim.Native.Nat.{ℕ, ◌+◌, ◌-◌, ◌/◌, ◌<◌, ◌≤◌}
+use Prim.Native.Nat.{ℕ, ◌+◌, ◌-◌, ◌<◌, ◌≤◌}
 use native.Mathlib.Omega.{arith}
-use mathlib.Core.Path.{◌≡◌, refl, sym, ap, subst, ◌∙◌}
+use mathlib.Core.Path.{◌≡◌, sym, ap, subst, ◌∙◌}
 use mathlib.Core.List.{List}
 use lib.ListN.{length, get_or}
 use Rattle.format.specs.Fields.{Pair}
@@ -9,7 +9,7 @@ use Rattle.comparing.specs.Order.{compare_bytes, flip}
 use Rattle.comparing.specs.declared.Order.{Order}
 use Rattle.comparing.specs.declared.Order.TheVariants.{Less, Equal, Greater}
 use Rattle.comparing.proofs.Ordered.{Way, under, same, over, way, compare_equal, compare_flip, compare_trans}
-use Rattle.index.specs.Index.{Index, Between, Sought, between}
+use Rattle.index.specs.Index.{Index, Sought, between}
 use Rattle.index.specs.declared.Halves.{Halves}
 use Rattle.index.specs.declared.Spot.TheVariants.{Found, At}
 

@@ -1,5 +1,5 @@
 -- An index tells whether a key was seen, and it grows by a pair whose key was not. Assumes nothing.
-use Prim.Native.Nat.{ℕ, zero, suc, ◌+◌, ◌<◌, ◌≤◌}
+use Prim.Native.Nat.{ℕ, zero, suc, ◌<◌, ◌≤◌}
 use native.Mathlib.Omega.{arith}
 use mathlib.Core.Path.{◌≡◌, refl, sym, ap, subst, ◌∙◌}
 use mathlib.Core.Bool.{Bool, true, false, ◌||◌}
@@ -10,7 +10,7 @@ use Rattle.format.specs.Fields.{Pair}
 use Rattle.format.specs.Context.{seen}
 use Rattle.comparing.specs.Order.{compare_bytes, flip}
 use Rattle.comparing.specs.declared.Order.{Order}
-use Rattle.comparing.specs.declared.Order.TheVariants.{Less, Equal, Greater}
+use Rattle.comparing.specs.declared.Order.TheVariants.{Less, Greater}
 use Rattle.comparing.proofs.Ordered.{Way, under, same, over, way, compare_flip, same_refl, less_not_same, greater_not_same}
 use Rattle.index.specs.Index.{Index, Stands, Between, Sought, Finds, Shifted, Copied}
 use Rattle.index.specs.declared.Spot.{Spot}

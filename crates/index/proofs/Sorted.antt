@@ -1,12 +1,11 @@
 -- What the numbers of an index stand for is sorted: a number that is put in puts its pair in order. Assumes nothing.
-use Prim.Native.Nat.{ℕ, zero, suc, ◌+◌, ◌-◌, ◌<◌, ◌≤◌}
+use Prim.Native.Nat.{ℕ, zero, suc, ◌+◌, ◌<◌, ◌≤◌}
 use native.Mathlib.Omega.{arith}
 use mathlib.Core.Path.{◌≡◌, refl, sym, ap, ap₂, ◌∙◌}
-use mathlib.Core.Bool.{true, false}
 use mathlib.Core.List.{List, [], ◌∷◌, ◌++◌}
 use lib.ListN.{length, get_or}
 use Rattle.format.specs.Fields.{Pair}
-use Rattle.format.specs.Sorted.{before, put_in_order, sort_among, sort_pairs}
+use Rattle.format.specs.Sorted.{put_in_order, sort_among}
 use Rattle.comparing.specs.Order.{compare_bytes, flip}
 use Rattle.comparing.specs.declared.Order.TheVariants.{Less, Greater}
 use Rattle.comparing.proofs.Ordered.{compare_flip, less_before, greater_before}

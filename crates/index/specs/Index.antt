@@ -5,7 +5,6 @@ use Rattle.format.specs.Fields.{Pair}
 use Rattle.format.specs.Context.{seen}
 use Rattle.format.specs.Sorted.{sort_pairs}
 use Rattle.comparing.specs.Order.{compare_bytes}
-use Rattle.comparing.specs.declared.Order.{Order}
 use Rattle.comparing.specs.declared.Order.TheVariants.{Less, Greater}
 use Rattle.index.specs.declared.Halves.{Halves}
 use Rattle.index.specs.declared.Spot.{Spot}

@@ -2,10 +2,9 @@
 use mathlib.Core.Path.{◌≡◌, sym, ap, ◌∙◌}
 use mathlib.Core.Bool.{Bool, true, false, not}
 use mathlib.Core.List.{List, []}
-use Prim.Native.Nat.{ℕ, ◌+◌, ◌≤◌, ◌<◌}
+use Prim.Native.Nat.{ℕ, ◌+◌}
 use native.Mathlib.Omega.{arith}
 use lib.Dec.{leb}
-use lib.ListN.{length}
 use borrow.Author.Tests.{eq-eqb, ne_eqb}
 use Rattle.format.specs.Read.{no_end, accepted, at, repeat}
 use Rattle.format.specs.Serialize.{read_uint16, read_short_length_seq}
@@ -34,7 +33,7 @@ use Rattle.entries.proofs.Walk.{all_length}
 use Rattle.keys.specs.Codes.{keys_of, any_key}
 use Rattle.keys.specs.declared.KeysAnswer.{KeysAnswer}
 use Rattle.keys.specs.declared.KeysAnswer.TheVariants.{Accepted, Refused}
-use Rattle.keys.proofs.Known.{key_tidy, key_kind}
+use Rattle.keys.proofs.Known.{key_kind}
 
 module _ (max : Max) (count : ℕ) where
   pub within_none : max ≡ None → true ≡ within count (max_of max)

@@ -1,5 +1,5 @@
 -- The code's answers, of what a reader answers. Assumes nothing.
-use Rattle.std.specs.Prelude.{List, ℕ, length}
+use Rattle.std.specs.Prelude.{List, length}
 use Rattle.format.specs.Read.{Reader, Answer, accepted, refused}
 use Rattle.format.specs.Fields.{EncryptedDataKeyAt}
 use Rattle.format.specs.Keys.{read_encrypted_data_key}

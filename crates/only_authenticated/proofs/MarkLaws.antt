@@ -5,8 +5,8 @@ use native.Mathlib.Nat.{sub-zero, add-sub_cancel_left}
 use native.Mathlib.Numerals.{add-one}
 use native.Mathlib.Omega.{arith}
 use mathlib.Core.Path.{◌≡◌, refl, sym, ap, ◌∙◌}
-use mathlib.Core.Bool.{Bool, true, false, cond, not, ◌||◌}
-use mathlib.Core.List.{List, [], ◌∷◌, ◌++◌}
+use mathlib.Core.Bool.{Bool, true, false, cond, ◌||◌}
+use mathlib.Core.List.{List, ◌∷◌, ◌++◌}
 use lib.ListN.{length, get_or, set, take, drop}
 use lib.Seq.{get_or-set_same, get_or-set_other}
 use Rattle.format.specs.Serialize.{same_bytes}
@@ -14,7 +14,7 @@ use Rattle.format.specs.Fields.{Pair}
 use Rattle.format.specs.Lent.{items, part_in}
 use Rattle.format.specs.OnlyAuthenticated.{is_among, only_required, context_to_only_authenticate}
 use Rattle.comparing.specs.Order.{compare_bytes, flip}
-use Rattle.comparing.specs.declared.Order.TheVariants.{Less, Greater}
+use Rattle.comparing.specs.declared.Order.TheVariants.{Greater}
 use Rattle.comparing.proofs.Ordered.{Way, under, same, over, way, compare_flip, same_refl, less_not_same, greater_not_same}
 use Rattle.index.specs.Index.{numbered, Sought, Stands, Between}
 use Rattle.index.specs.declared.Spot.{Spot}
@@ -22,7 +22,6 @@ use Rattle.index.specs.declared.Spot.TheVariants.{Found, At}
 use Rattle.index.proofs.Grown.{sought_stands, sought_between}
 use Rattle.pair_index.specs.Index.{key_of, pair_from, first_pairs}
 use Rattle.context.specs.Stepping.{HasPairs}
-use Rattle.checks.specs.Table.{Within}
 use Rattle.checks.proofs.Items.{items_step, items_none}
 use Rattle.only_authenticated.specs.Marks.{is_marked, marked_at, marked, Unmarked, MarksOne, MarksAll}
 

@@ -1,5 +1,5 @@
 -- Laws of writing the marked pairs. Assumes nothing.
-use Prim.Native.Nat.{ℕ, suc, ◌+◌, ◌-◌, ◌≤◌, ◌<◌}
+use Prim.Native.Nat.{ℕ, ◌+◌, ◌-◌, ◌≤◌, ◌<◌}
 use native.Mathlib.Nat.{sub-zero, add-zero}
 use native.Mathlib.Omega.{arith}
 use mathlib.Core.Path.{◌≡◌, refl, sym, ap, ◌∙◌}
@@ -10,8 +10,8 @@ use Rattle.format.specs.Serialize.{write_uint16, write_short_length_seq, images,
 use Rattle.format.specs.Fields.{Pair, pair_of}
 use Rattle.format.specs.Context.{pair_length, linear_length, write_aad_pair, write_aad_pairs, write_aad, write_empty_ec_or_write_aad}
 use Rattle.format.specs.Lent.{bytes_at}
-use Rattle.format.specs.Places.{number16, entry_end, pair_here, pair_end}
-use Rattle.format.proofs.Context.{length_pair, length_pairs}
+use Rattle.format.specs.Places.{pair_here, pair_end}
+use Rattle.format.proofs.Context.{length_pairs}
 use Rattle.format.proofs.Serialize.{length_uint16, length_entry, images_append, sum_append}
 use Rattle.steps.proofs.Numbers.{length_part}
 use Rattle.wire.specs.Codes.{because}

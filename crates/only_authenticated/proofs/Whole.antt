@@ -2,17 +2,17 @@
 use Prim.Native.Nat.{ℕ, zero, suc, ◌+◌, ◌%◌, ◌≤◌, ◌<◌}
 use native.Mathlib.Omega.{arith}
 use mathlib.Core.Path.{◌≡◌, refl, sym, ap, subst, ◌∙◌}
-use mathlib.Core.Bool.{Bool, true, false, cond, ◌&&◌}
-use mathlib.Core.List.{List, [], ◌∷◌, map}
+use mathlib.Core.Bool.{Bool, true, false, cond}
+use mathlib.Core.List.{List, [], map}
 use lib.Dec.{leb, eqb}
 use lib.ListN.{length, get_or, replicate}
 use borrow.Author.Tests.{eq-eqb, ne_eqb}
-use Rattle.format.specs.Read.{Answer, accepted, refused, at, operation}
+use Rattle.format.specs.Read.{accepted, refused, at}
 use Rattle.format.specs.Serialize.{every}
 use Rattle.format.specs.Fields.{PairAt, pair_of}
 use Rattle.format.specs.Context.{tolerant, read_aad_section, write_empty_ec_or_write_aad}
-use Rattle.format.specs.Lent.{parts_in, places, in_text, filled}
-use Rattle.format.specs.Places.{number16, pair_here, pair_end, pairs_here, section_pairs}
+use Rattle.format.specs.Lent.{parts_in, places, in_text}
+use Rattle.format.specs.Places.{number16, pair_here, pair_end, pairs_here}
 use Rattle.format.specs.OnlyAuthenticated.{context_to_only_authenticate, only_authenticated, in_twos, fitting, write_only_authenticated}
 use Rattle.format.proofs.Lines.{goes_accepted}
 use Rattle.format.proofs.First.{context_goes}

@@ -1,5 +1,4 @@
 -- The parts of a request, as the definitions have them. Assumes nothing.
-use Rattle.std.specs.Prelude.{ℕ}
 use Rattle.format.specs.Context.{tolerant, strict}
 use Rattle.format.specs.Context.{Mode as ModeAsked}
 use Rattle.format.specs.Keys.{no_max, at_most}

@@ -1,6 +1,5 @@
 use Rattle.std.proofs.Common.{rules}
-use Prim.Native.Nat.{◌-◌}
-use Rattle.entries.proofs.Tables.{Filled, filled_start, filled_next, filled_more, filled_end}
+use Rattle.entries.proofs.Tables.{filled_start, filled_next, filled_more, filled_end}
 use Rattle.entries.proofs.fill_places.Goals as goal
 
 ruleset laws = (filled_start, filled_next, filled_more, filled_end, rules)

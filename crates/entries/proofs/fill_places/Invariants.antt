@@ -1,5 +1,5 @@
 use Prim.Native.Nat.{◌-◌}
-use Rattle.entries.proofs.Tables.{Filled, filled_start, filled_next, filled_more, filled_end}
+use Rattle.entries.proofs.Tables.{Filled}
 use Rattle.entries.proofs.fill_places.Given as goal
 
 abbrev pub invariant-loop-i : goal.invariant-loop-i

@@ -1,6 +1,6 @@
 use Prim.Native.Nat.{◌-◌}
 use lib.ListN.{length}
-use Rattle.index.proofs.Moved.{Copying, copying_start, copying_more, copying_end}
+use Rattle.index.proofs.Moved.{Copying}
 use Rattle.index.proofs.copy.Given as goal
 
 abbrev pub invariant-loop-i : goal.invariant-loop-i

@@ -1,4 +1,4 @@
-use Rattle.index.proofs.Moved.{Moved, moved_start, moved_more, moved_end}
+use Rattle.index.proofs.Moved.{Moved}
 use Rattle.index.proofs.insert.Given as goal
 
 abbrev pub invariant-loop-j : goal.invariant-loop-j

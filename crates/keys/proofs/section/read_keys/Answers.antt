@@ -1,8 +1,4 @@
 use Rattle.std.proofs.Common.{rules}
-use Prim.Native.Nat.{◌-◌}
-use Rattle.format.specs.Places.{key_here, key_end}
-use Rattle.keys.specs.Codes.{any_key}
-use Rattle.entries.specs.Walk.{Walk}
 use Rattle.entries.proofs.Walk.{walk_start, walk_near, walk_end, walk_stop, walk_more}
 use Rattle.keys.proofs.Known.{key_kind}
 use Rattle.keys.proofs.section.read_keys.Goals as goal

@@ -2,8 +2,6 @@ use Prim.Native.Nat.{◌-◌}
 use Rattle.format.specs.Places.{key_here, key_end}
 use Rattle.keys.specs.Codes.{any_key}
 use Rattle.entries.specs.Walk.{Walk}
-use Rattle.entries.proofs.Walk.{walk_start, walk_near, walk_end, walk_stop, walk_more}
-use Rattle.keys.proofs.Known.{key_kind}
 use Rattle.keys.proofs.section.read_keys.Given as goal
 
 abbrev pub invariant-loop-i : goal.invariant-loop-i

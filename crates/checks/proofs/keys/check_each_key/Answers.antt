@@ -1,0 +1,17 @@
+use Rattle.std.proofs.Common.{rules}
+use Rattle.checks.proofs.Loops.{each_start, each_more, each_bad, each_end}
+use Rattle.checks.proofs.keys.check_each_key.Goals as goal
+
+ruleset laws = (each_start, each_more, each_bad, each_end, rules)
+
+pub loop-i-init : goal.loop-i-init
+loop-i-init c = search laws
+
+pub returns-in-Fails : goal.returns-in-Fails
+returns-in-Fails c = search laws
+
+pub loop-i-preserved : goal.loop-i-preserved
+loop-i-preserved c = search laws
+
+pub returns : goal.returns
+returns c = search laws

@@ -1,0 +1,8 @@
+use Rattle.std.proofs.Common.{rules}
+use Rattle.drafts.proofs.TakenOut.{stay_put}
+use Rattle.drafts.proofs.dropping.keep.Goals as goal
+
+ruleset laws = (stay_put, rules)
+
+pub returns : goal.returns
+returns c = search laws
