@@ -62,11 +62,11 @@ H =
     ∷ 0x00 ∷ 0x00 ∷ 0x10 ∷ 0x00
     ∷ []
 
-abbrev pub H-read : Expected
-H-read = accepts 58 (1 ∷ 0x80 ∷ 0x0178 ∷ 0 ∷ 4 ∷ 16 ∷ 26 ∷ 4 ∷ 32 ∷ 2 ∷ 38 ∷ 2 ∷ 42 ∷ 1 ∷ 45 ∷ 3 ∷ 2 ∷ 12 ∷ 4096 ∷ 0 ∷ 0 ∷ [])
+abbrev pub h_read : Expected
+h_read = accepts 58 (1 ∷ 0x80 ∷ 0x0178 ∷ 0 ∷ 4 ∷ 16 ∷ 26 ∷ 4 ∷ 32 ∷ 2 ∷ 38 ∷ 2 ∷ 42 ∷ 1 ∷ 45 ∷ 3 ∷ 2 ∷ 12 ∷ 4096 ∷ 0 ∷ 0 ∷ [])
 
-unfoldable pub H-fields : Fields
-H-fields =
+unfoldable pub h_fields : Fields
+h_fields =
     record {
       version = 1;
       messageType = 0x80;
@@ -93,8 +93,8 @@ cases =
     ∷ section tolerant (0x00 ∷ 0x0A ∷ 0x00 ∷ 0x02 ∷ 0x00 ∷ 0x00 ∷ 0x00 ∷ 0x00 ∷ 0x00 ∷ 0x00 ∷ 0x00 ∷ 0x00 ∷ []) (refuses 12 0)
     ∷ section tolerant (0x00 ∷ 0x04 ∷ 0x00 ∷ 0x01 ∷ 0x00 ∷ 0x05 ∷ []) (refuses 32 0)
     ∷ section tolerant (0x00 ∷ 0x04 ∷ 0x00 ∷ 0x01 ∷ 0x00 ∷ 0x05 ∷ 0x61 ∷ 0x62 ∷ 0x63 ∷ 0x64 ∷ 0x65 ∷ 0x00 ∷ 0x00 ∷ []) (refuses 32 0)
-    ∷ body H 0 H-read
-    ∷ writes today H-fields H
+    ∷ body H 0 h_read
+    ∷ writes today h_fields H
     ∷ body (take 22 H) 0 (shortage_at 34)
     ∷ body H 70 (shortage_at 71)
     ∷ []
@@ -110,5 +110,5 @@ unfolding write_uint16 write_uint32 write_short_length_seq images every write_aa
 laid_out = tt
 
 pub marked : every passes cases ≡ true
-unfolding opened laid_out cases passes is H H-fields body_numbers
+unfolding opened laid_out cases passes is H h_fields body_numbers
 marked = refl

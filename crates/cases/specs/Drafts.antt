@@ -46,18 +46,18 @@ three_keys = front ++ (0x00 ∷ 0x03 ∷ p1 ++ (q ++ (p1_again ++ (back ++ behin
 abbrev key_q : EncryptedDataKey
 key_q = record { keyProviderId = 0x71 ∷ []; keyProviderInfo = []; ciphertext = 0x07 ∷ [] }
 
-abbrev key_FF : EncryptedDataKey
-key_FF = record { keyProviderId = 0xFF ∷ []; keyProviderInfo = []; ciphertext = [] }
+abbrev key_ff : EncryptedDataKey
+key_ff = record { keyProviderId = 0xFF ∷ []; keyProviderInfo = []; ciphertext = [] }
 
 -- version 2, an empty context in its old form, a key without bytes; and what that is with q behind it
-abbrev V2-front : List ℕ
-V2-front = take 35 V2
+abbrev v2_front : List ℕ
+v2_front = take 35 V2
 
 abbrev old_draft : List ℕ
-old_draft = V2-front ++ (0x00 ∷ 0x02 ∷ 0x00 ∷ 0x00 ∷ 0x00 ∷ 0x01 ∷ 0x00 ∷ 0x00 ∷ 0x00 ∷ 0x00 ∷ 0x00 ∷ 0x00 ∷ 0x02 ∷ 0x00 ∷ 0x00 ∷ 0x10 ∷ 0x00 ∷ bytes_from 0)
+old_draft = v2_front ++ (0x00 ∷ 0x02 ∷ 0x00 ∷ 0x00 ∷ 0x00 ∷ 0x01 ∷ 0x00 ∷ 0x00 ∷ 0x00 ∷ 0x00 ∷ 0x00 ∷ 0x00 ∷ 0x02 ∷ 0x00 ∷ 0x00 ∷ 0x10 ∷ 0x00 ∷ bytes_from 0)
 
 abbrev old_longer : List ℕ
-old_longer = V2-front ++ (0x00 ∷ 0x02 ∷ 0x00 ∷ 0x00 ∷ 0x00 ∷ 0x02 ∷ 0x00 ∷ 0x00 ∷ 0x00 ∷ 0x00 ∷ 0x00 ∷ 0x00 ∷ q ++ (0x02 ∷ 0x00 ∷ 0x00 ∷ 0x10 ∷ 0x00 ∷ bytes_from 0))
+old_longer = v2_front ++ (0x00 ∷ 0x02 ∷ 0x00 ∷ 0x00 ∷ 0x00 ∷ 0x02 ∷ 0x00 ∷ 0x00 ∷ 0x00 ∷ 0x00 ∷ 0x00 ∷ 0x00 ∷ q ++ (0x02 ∷ 0x00 ∷ 0x00 ∷ 0x10 ∷ 0x00 ∷ bytes_from 0))
 
 unfoldable pub mendings : List Mending
 mendings =
@@ -78,12 +78,12 @@ mendings =
     ∷ adds key_q (H ++ zeros 8) (accepts 58 (66 ∷ [])) (front ++ (0x00 ∷ 0x02 ∷ p1 ++ (q ++ back)))
     ∷ adds key_q (H ++ zeros 7) (refuses 28 0) (H ++ zeros 7)
     -- 16 before 28, and behind the reading's refusals
-    ∷ adds key_FF H (refuses 16 0) H
-    ∷ adds key_FF (take 57 H) (shortage_at 58) (take 57 H)
+    ∷ adds key_ff H (refuses 16 0) H
+    ∷ adds key_ff (take 57 H) (shortage_at 58) (take 57 H)
     -- the old form of an empty context stays as it is
     ∷ adds key_q (old_draft ++ zeros 8) (accepts 84 (92 ∷ [])) old_longer
     ∷ drops (0x71 ∷ []) old_longer (accepts 92 (84 ∷ [])) (old_draft ++ zeros 8)
-    ∷ drops [] old_longer (accepts 92 (86 ∷ [])) (V2-front ++ (0x00 ∷ 0x02 ∷ 0x00 ∷ 0x00 ∷ 0x00 ∷ 0x01 ∷ q ++ (0x02 ∷ 0x00 ∷ 0x00 ∷ 0x10 ∷ 0x00 ∷ bytes_from 0 ++ zeros 6)))
+    ∷ drops [] old_longer (accepts 92 (86 ∷ [])) (v2_front ++ (0x00 ∷ 0x02 ∷ 0x00 ∷ 0x00 ∷ 0x00 ∷ 0x01 ∷ q ++ (0x02 ∷ 0x00 ∷ 0x00 ∷ 0x10 ∷ 0x00 ∷ bytes_from 0 ++ zeros 6)))
     ∷ []
 
 -- to unfold this is to unfold how a draft is mended

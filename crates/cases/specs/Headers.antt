@@ -9,25 +9,25 @@ use Rattle.format.specs.Body.{either, read_header_body}
 use Rattle.format.specs.Auth.{zeros}
 use Rattle.format.specs.Lent.{pair_numbers, key_numbers, items, in_text, part_in, fields_to_write, table_checks, Writing, refusal_of, size_of, writing_header_body_under, writing_header_body, output_after}
 use Rattle.format.specs.WrittenBack.{again}
-use Rattle.cases.specs.Cases.{Expected, accepts, Case, body, writes, is, passes, body_numbers, H, H-fields, opened, laid_out}
+use Rattle.cases.specs.Cases.{Expected, accepts, Case, body, writes, is, passes, body_numbers, H, h_fields, opened, laid_out}
 
 -- H with another context section in the place of its own
-unfoldable pub H-with : List ℕ → List ℕ
-H-with section = take 20 H ++ (section ++ drop 34 H)
+unfoldable pub h_with : List ℕ → List ℕ
+h_with section = take 20 H ++ (section ++ drop 34 H)
 
-unfoldable pub H-without-pairs : Fields
-H-without-pairs =
+unfoldable pub h_without_pairs : Fields
+h_without_pairs =
     record {
-      version = H-fields.version;
-      messageType = H-fields.messageType;
-      suite = H-fields.suite;
-      messageId = H-fields.messageId;
+      version = h_fields.version;
+      messageType = h_fields.messageType;
+      suite = h_fields.suite;
+      messageId = h_fields.messageId;
       pairs = [];
-      keys = H-fields.keys;
-      contentType = H-fields.contentType;
-      headerIvLength = H-fields.headerIvLength;
-      frameLength = H-fields.frameLength;
-      suiteData = H-fields.suiteData;
+      keys = h_fields.keys;
+      contentType = h_fields.contentType;
+      headerIvLength = h_fields.headerIvLength;
+      frameLength = h_fields.frameLength;
+      suiteData = h_fields.suiteData;
     }
 
 -- 32 bytes, from one on
@@ -42,11 +42,11 @@ V2 =
     ++ ((0x00 ∷ 0x01 ∷ 0x00 ∷ 0x01 ∷ 0x70 ∷ 0x00 ∷ 0x00 ∷ 0x00 ∷ 0x01 ∷ 0xAA ∷ [])
     ++ ((0x01 ∷ 0x00 ∷ 0x00 ∷ 0x00 ∷ 0x00 ∷ []) ++ bytes_from 0xC0)))
 
-abbrev pub V2-read : Expected
-V2-read = accepts 92 (2 ∷ 0 ∷ 0x0578 ∷ 0 ∷ 3 ∷ 32 ∷ 41 ∷ 1 ∷ 44 ∷ 1 ∷ 49 ∷ 1 ∷ 52 ∷ 0 ∷ 54 ∷ 1 ∷ 1 ∷ 0 ∷ 0 ∷ 60 ∷ 32 ∷ [])
+abbrev pub v2_read : Expected
+v2_read = accepts 92 (2 ∷ 0 ∷ 0x0578 ∷ 0 ∷ 3 ∷ 32 ∷ 41 ∷ 1 ∷ 44 ∷ 1 ∷ 49 ∷ 1 ∷ 52 ∷ 0 ∷ 54 ∷ 1 ∷ 1 ∷ 0 ∷ 0 ∷ 60 ∷ 32 ∷ [])
 
-unfoldable pub V2-fields : Fields
-V2-fields =
+unfoldable pub v2_fields : Fields
+v2_fields =
     record {
       version = 2;
       messageType = 0;
@@ -62,17 +62,17 @@ V2-fields =
 
 unfoldable pub headers : List Case
 headers =
-    body (H-with (0x00 ∷ 0x00 ∷ [])) 0 (accepts 46 (1 ∷ 0x80 ∷ 0x0178 ∷ 0 ∷ 4 ∷ 16 ∷ 26 ∷ 2 ∷ 30 ∷ 1 ∷ 33 ∷ 3 ∷ 2 ∷ 12 ∷ 4096 ∷ 0 ∷ 0 ∷ []))
-    ∷ body (H-with (0x00 ∷ 0x02 ∷ 0x00 ∷ 0x00 ∷ [])) 0 (accepts 48 (1 ∷ 0x80 ∷ 0x0178 ∷ 1 ∷ 4 ∷ 16 ∷ 28 ∷ 2 ∷ 32 ∷ 1 ∷ 35 ∷ 3 ∷ 2 ∷ 12 ∷ 4096 ∷ 0 ∷ 0 ∷ []))
-    ∷ writes today H-without-pairs (H-with (0x00 ∷ 0x00 ∷ []))
-    ∷ writes old H-without-pairs (H-with (0x00 ∷ 0x02 ∷ 0x00 ∷ 0x00 ∷ []))
-    ∷ body V2 0 V2-read
+    body (h_with (0x00 ∷ 0x00 ∷ [])) 0 (accepts 46 (1 ∷ 0x80 ∷ 0x0178 ∷ 0 ∷ 4 ∷ 16 ∷ 26 ∷ 2 ∷ 30 ∷ 1 ∷ 33 ∷ 3 ∷ 2 ∷ 12 ∷ 4096 ∷ 0 ∷ 0 ∷ []))
+    ∷ body (h_with (0x00 ∷ 0x02 ∷ 0x00 ∷ 0x00 ∷ [])) 0 (accepts 48 (1 ∷ 0x80 ∷ 0x0178 ∷ 1 ∷ 4 ∷ 16 ∷ 28 ∷ 2 ∷ 32 ∷ 1 ∷ 35 ∷ 3 ∷ 2 ∷ 12 ∷ 4096 ∷ 0 ∷ 0 ∷ []))
+    ∷ writes today h_without_pairs (h_with (0x00 ∷ 0x00 ∷ []))
+    ∷ writes old h_without_pairs (h_with (0x00 ∷ 0x02 ∷ 0x00 ∷ 0x00 ∷ []))
+    ∷ body V2 0 v2_read
     ∷ body (0xFF ∷ 0xFF ∷ V2 ++ (0xFF ∷ [])) 2 (accepts 94 (2 ∷ 0 ∷ 0x0578 ∷ 0 ∷ 5 ∷ 32 ∷ 43 ∷ 1 ∷ 46 ∷ 1 ∷ 51 ∷ 1 ∷ 54 ∷ 0 ∷ 56 ∷ 1 ∷ 1 ∷ 0 ∷ 0 ∷ 62 ∷ 32 ∷ []))
-    ∷ writes today V2-fields V2
+    ∷ writes today v2_fields V2
     ∷ []
 
 pub headers_hold : every passes headers ≡ true
-unfolding opened laid_out headers passes is H H-fields H-with H-without-pairs bytes_from V2 V2-fields body_numbers
+unfolding opened laid_out headers passes is H h_fields h_with h_without_pairs bytes_from V2 v2_fields body_numbers
 headers_hold = refl
 
 -- the call that writes a body that was read again
@@ -110,11 +110,11 @@ comes_back x =
 unfoldable pub refiled : List Back
 refiled =
     back H 0 58
-    ∷ back (H-with (0x00 ∷ 0x00 ∷ [])) 0 46
-    ∷ back (H-with (0x00 ∷ 0x02 ∷ 0x00 ∷ 0x00 ∷ [])) 0 48
+    ∷ back (h_with (0x00 ∷ 0x00 ∷ [])) 0 46
+    ∷ back (h_with (0x00 ∷ 0x02 ∷ 0x00 ∷ 0x00 ∷ [])) 0 48
     ∷ back (0xFF ∷ 0xFF ∷ V2 ++ (0xFF ∷ [])) 2 92
     ∷ []
 
 pub all_come_back : every comes_back refiled ≡ true
-unfolding opened laid_out refiled comes_back H H-with bytes_from V2 zeros again items in_text part_in fields_to_write table_checks refusal_of writing_header_body_under
+unfolding opened laid_out refiled comes_back H h_with bytes_from V2 zeros again items in_text part_in fields_to_write table_checks refusal_of writing_header_body_under
 all_come_back = refl

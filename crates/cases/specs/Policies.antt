@@ -11,8 +11,8 @@ use Rattle.format.specs.Body.{Which, either, v1_only, v2_only, read_header_body_
 use Rattle.format.specs.Auth.{zeros}
 use Rattle.format.specs.Checks.{first}
 use Rattle.format.specs.Lent.{items, in_text, part_in, table_checks, BodyToWrite, fields_to_write, writing_header_body_under}
-use Rattle.cases.specs.Cases.{Expected, refuses, shortage_at, is, body_numbers, H, H-read, opened, laid_out}
-use Rattle.cases.specs.Headers.{bytes_from, V2, V2-read}
+use Rattle.cases.specs.Cases.{Expected, refuses, shortage_at, is, body_numbers, H, h_read, opened, laid_out}
+use Rattle.cases.specs.Headers.{bytes_from, V2, v2_read}
 use Rattle.cases.specs.Faults.{id, some_text, one, lent_in}
 
 pub data Ruled : Type 0 where
@@ -54,24 +54,24 @@ REQUIRE-REQUIRE = require_encrypt_require_decrypt
 unfoldable pub ruled : List Ruled
 ruled =
     -- who reads which version
-    reads no_policy either tolerant H H-read
-    ∷ reads no_policy either tolerant V2 V2-read
-    ∷ reads FORBID-ALLOW either tolerant H H-read
-    ∷ reads FORBID-ALLOW either tolerant V2 V2-read
-    ∷ reads FORBID-ALLOW v1_only tolerant H H-read
-    ∷ reads FORBID-ALLOW v2_only tolerant V2 V2-read
-    ∷ reads REQUIRE-ALLOW either tolerant H H-read
-    ∷ reads REQUIRE-ALLOW either tolerant V2 V2-read
-    ∷ reads REQUIRE-ALLOW v1_only tolerant H H-read
-    ∷ reads REQUIRE-ALLOW v2_only tolerant V2 V2-read
+    reads no_policy either tolerant H h_read
+    ∷ reads no_policy either tolerant V2 v2_read
+    ∷ reads FORBID-ALLOW either tolerant H h_read
+    ∷ reads FORBID-ALLOW either tolerant V2 v2_read
+    ∷ reads FORBID-ALLOW v1_only tolerant H h_read
+    ∷ reads FORBID-ALLOW v2_only tolerant V2 v2_read
+    ∷ reads REQUIRE-ALLOW either tolerant H h_read
+    ∷ reads REQUIRE-ALLOW either tolerant V2 v2_read
+    ∷ reads REQUIRE-ALLOW v1_only tolerant H h_read
+    ∷ reads REQUIRE-ALLOW v2_only tolerant V2 v2_read
     ∷ reads REQUIRE-REQUIRE either tolerant H (refuses 39 0)
     ∷ reads REQUIRE-REQUIRE either strict H (refuses 39 0)
     ∷ reads REQUIRE-REQUIRE v1_only tolerant H (refuses 39 0)
     ∷ reads REQUIRE-REQUIRE v1_only strict H (refuses 39 0)
-    ∷ reads REQUIRE-REQUIRE either tolerant V2 V2-read
-    ∷ reads REQUIRE-REQUIRE either strict V2 V2-read
-    ∷ reads REQUIRE-REQUIRE v2_only tolerant V2 V2-read
-    ∷ reads REQUIRE-REQUIRE v2_only strict V2 V2-read
+    ∷ reads REQUIRE-REQUIRE either tolerant V2 v2_read
+    ∷ reads REQUIRE-REQUIRE either strict V2 v2_read
+    ∷ reads REQUIRE-REQUIRE v2_only tolerant V2 v2_read
+    ∷ reads REQUIRE-REQUIRE v2_only strict V2 v2_read
     -- 4 and 7 before 39
     ∷ reads REQUIRE-REQUIRE v2_only tolerant H (refuses 4 0)
     ∷ reads REQUIRE-REQUIRE either tolerant (0x01 ∷ 0x81 ∷ []) (refuses 5 0)

@@ -6,7 +6,7 @@ use Rattle.format.specs.Fields.{fields_of}
 use Rattle.format.specs.OnlyAuthenticated.{fitting}
 use Rattle.format.specs.Reissuing.{reissued_header_body, reissue_header_body}
 use Rattle.cases.specs.Cases.{Expected, accepts, refuses, shortage_at, is, H, opened, laid_out}
-use Rattle.cases.specs.Headers.{H-with, bytes_from, V2}
+use Rattle.cases.specs.Headers.{h_with, bytes_from, V2}
 
 -- a suite, an ID and suite data; an output of so many bytes; a message and a start; the draft's tail and the bytes written, or a refusal
 pub data Reissuing : Type 0 where
@@ -23,19 +23,19 @@ abbrev pub suite_data : List ℕ
 suite_data = bytes_from 0xC0
 
 -- what H becomes, with its pair and without: H's sections between new ends
-abbrev H2-with : List ℕ → List ℕ
-H2-with section =
+abbrev h2_with : List ℕ → List ℕ
+h2_with section =
     (0x02 ∷ 0x04 ∷ 0x78 ∷ id)
     ++ (section
     ++ ((0x00 ∷ 0x01 ∷ 0x00 ∷ 0x02 ∷ 0x70 ∷ 0x31 ∷ 0x00 ∷ 0x01 ∷ 0x61 ∷ 0x00 ∷ 0x03 ∷ 0xAA ∷ 0xBB ∷ 0xCC ∷ [])
     ++ ((0x02 ∷ 0x00 ∷ 0x00 ∷ 0x10 ∷ 0x00 ∷ []) ++ suite_data)))
 
 abbrev H2 : List ℕ
-H2 = H2-with (0x00 ∷ 0x0C ∷ 0x00 ∷ 0x01 ∷ 0x00 ∷ 0x04 ∷ 0x6C ∷ 0x61 ∷ 0x6E ∷ 0x67 ∷ 0x00 ∷ 0x02 ∷ 0x63 ∷ 0x79 ∷ [])
+H2 = h2_with (0x00 ∷ 0x0C ∷ 0x00 ∷ 0x01 ∷ 0x00 ∷ 0x04 ∷ 0x6C ∷ 0x61 ∷ 0x6E ∷ 0x67 ∷ 0x00 ∷ 0x02 ∷ 0x63 ∷ 0x79 ∷ [])
 
 -- H, whose content type and frame length don't go together
-abbrev H-non-framed : List ℕ
-H-non-framed = take 48 H ++ (0x01 ∷ drop 49 H)
+abbrev h_non_framed : List ℕ
+h_non_framed = take 48 H ++ (0x01 ∷ drop 49 H)
 
 unfoldable pub reissuings : List Reissuing
 reissuings =
@@ -46,16 +46,16 @@ reissuings =
     -- from a start, with bytes in front of the draft and behind it
     ∷ reissues 0x0478 id suite_data 100 (0x02 ∷ 0xFF ∷ 0x01 ∷ H ++ (0xEE ∷ 0xDD ∷ [])) 3 (accepts 61 H2)
     -- an empty context, whatever form it stands in, is written as 00 00
-    ∷ reissues 0x0478 id suite_data 88 (H-with (0x00 ∷ 0x00 ∷ [])) 0 (accepts 46 (H2-with (0x00 ∷ 0x00 ∷ [])))
-    ∷ reissues 0x0478 id suite_data 88 (H-with (0x00 ∷ 0x02 ∷ 0x00 ∷ 0x00 ∷ [])) 0 (accepts 48 (H2-with (0x00 ∷ 0x00 ∷ [])))
-    ∷ reissues 0x0478 id suite_data 87 (H-with (0x00 ∷ 0x02 ∷ 0x00 ∷ 0x00 ∷ [])) 0 (refuses 28 0)
+    ∷ reissues 0x0478 id suite_data 88 (h_with (0x00 ∷ 0x00 ∷ [])) 0 (accepts 46 (h2_with (0x00 ∷ 0x00 ∷ [])))
+    ∷ reissues 0x0478 id suite_data 88 (h_with (0x00 ∷ 0x02 ∷ 0x00 ∷ 0x00 ∷ [])) 0 (accepts 48 (h2_with (0x00 ∷ 0x00 ∷ [])))
+    ∷ reissues 0x0478 id suite_data 87 (h_with (0x00 ∷ 0x02 ∷ 0x00 ∷ 0x00 ∷ [])) 0 (refuses 28 0)
     -- a version 2 draft, and one of which there is no more than the first byte; what it gave is not reissued again
     ∷ reissues 0x0478 id suite_data 200 V2 0 (refuses 4 0)
     ∷ reissues 0x0000 [] [] 0 (0x02 ∷ []) 0 (refuses 4 0)
     ∷ reissues 0x0478 id suite_data 200 H2 0 (refuses 4 0)
     -- the reading's refusals come first, then 20, then those of what is added, each in its turn, and 28
     ∷ reissues 0x0000 [] [] 0 (take 57 H) 0 (shortage_at 58)
-    ∷ reissues 0x0000 [] [] 0 H-non-framed 0 (refuses 20 0)
+    ∷ reissues 0x0000 [] [] 0 h_non_framed 0 (refuses 20 0)
     ∷ reissues 0x0000 [] [] 0 H 0 (refuses 6 0)
     ∷ reissues 0x0178 [] [] 0 H 0 (refuses 7 0)
     ∷ reissues 0x0478 (drop 1 id) [] 0 H 0 (refuses 24 0)
@@ -71,5 +71,5 @@ unfolding reissued_header_body reissue_header_body fitting fields_of
 reissuing = tt
 
 pub reissuings_hold : every reissued_so reissuings ≡ true
-unfolding opened laid_out reissuing is reissued_so H H-with V2 bytes_from reissuings
+unfolding opened laid_out reissuing is reissued_so H h_with V2 bytes_from reissuings
 reissuings_hold = refl

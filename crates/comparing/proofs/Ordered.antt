@@ -1,4 +1,4 @@
--- `compare-bytes` is a total order: equal exactly where the strings are, the other way round flipped, and transitive.
+-- `compare_bytes` is a total order: equal exactly where the strings are, the other way round flipped, and transitive.
 -- Assumes nothing.
 use Prim.Native.Nat.{ℕ, ◌<◌, ◌≤◌}
 use native.Mathlib.Nat.{lt_trans}

@@ -6,7 +6,6 @@ use mir.Val.{Fits}
 use mathlib.Core.Path.{◌≡◌, refl, sym, ap, subst, ◌∙◌}
 use mathlib.Core.List.{List, map}
 use lib.ListN.{length, get_or}
-use Rattle.format.specs.Read.{at}
 use Rattle.format.specs.Serialize.{Bytes}
 use Rattle.format.specs.Fields.{HeaderBody, fields_of, key_of}
 use Rattle.format.specs.Keys.{no_max}

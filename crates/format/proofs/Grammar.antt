@@ -1,4 +1,4 @@
--- `valid-utf8-seq` is the grammar of RFC 3629: bytes are valid exactly where they are characters, one after the other, each of which
+-- `valid_utf8_seq` is the grammar of RFC 3629: bytes are valid exactly where they are characters, one after the other, each of which
 -- matches a row byte by byte. Assumes nothing.
 use Prim.Native.Nat.{ℕ, suc, ◌≤◌, ◌<◌}
 use mathlib.Core.Path.{◌≡◌, refl, sym, ap, ◌∙◌, subst}

@@ -83,7 +83,7 @@ unfolding first_line
 behind_list [] ys zs h = h refl
 behind_list (x ∷ xs) ys zs h = behind_line x (xs ++ ys) (xs ++ zs) (λ e. behind_list xs ys zs (λ k. h (rw e k)))
 
--- `first-line` as the statements have it
+-- `first_line` as the statements have it
 pub none_applies : (xs : List Line) → first_line xs ≡ none → NoneApplies xs
 unfolding first_line every
 none_applies [] e = refl

@@ -20,8 +20,8 @@ use Rattle.format.specs.Pinned.{Decides, line_number, check_number}
 
 -- READING. The opening is good up to 7, and the policy forbids its version.
 abbrev pub forbids_of : Policy → Answer Lead → Bool
-forbids_of policy (accepted l t) = not (lets_read policy l.version)
-forbids_of policy (refused k p) = false
+forbids_of q (accepted l t) = not (lets_read q l.version)
+forbids_of q (refused k p) = false
 
 unfoldable pub forbids_reading : Policy → Which → List ℕ → ℕ → Bool
 forbids_reading policy which m s = forbids_of policy (operation (read_lead which) m s)
@@ -53,8 +53,8 @@ pub record ReadsImages (policy : Policy) (max : Max) (pairRoom keyRoom : ℕ) (m
 
 -- WRITING. The numbers are good up to 7, and the policy forbids the version.
 abbrev pub forbids_checked : Policy → ℕ → Option ℕ → Bool
-forbids_checked policy version none = not (lets_write policy version)
-forbids_checked policy version (some k) = false
+forbids_checked q version none = not (lets_write q version)
+forbids_checked q version (some k) = false
 
 unfoldable pub forbids_writing : Policy → BodyToWrite → Bool
 forbids_writing policy b = forbids_checked policy b.version (first (lead_checks b.version b.messageType b.suite))

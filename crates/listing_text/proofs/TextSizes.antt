@@ -49,7 +49,7 @@ module _ (m table : List ℕ) where
       let f = items_long word n c (j + 2 * n) h.1 in
       let g : n * suc c ≡ n + n * c = rw mul-suc (omega arith) in
       let k : (length word + 1) * suc c ≡ (length word + 1) * c + (length word + 1) = rw mul-suc refl in
-      rw (g, k, items_append here 2 n (n * c) j, sum_append, length-append, line_long) (omega arith)
+      rw (g, k, items_append here 2 n (n * c) j, sum_append (part_size table), length-append, line_long) (omega arith)
 
 data_long : (m : List ℕ) (version start n : ℕ) → There m start n → length (data_text m version start n) ≡ data_size version n
 unfolding data_text

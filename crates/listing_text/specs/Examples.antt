@@ -3,7 +3,7 @@
 use Rattle.std.specs.Prelude.{◌≡◌, refl, List, [], ◌∷◌, ℕ, take}
 use Rattle.format.specs.Serialize.{images}
 use Rattle.cases.specs.Cases.{H, opened}
-use Rattle.cases.specs.Headers.{H-with, bytes_from, V2}
+use Rattle.cases.specs.Headers.{h_with, bytes_from, V2}
 use Rattle.text.specs.Text.{decimal_in, decimal, field, line}
 use Rattle.listing_text.specs.Listing.{lines, number_fields, body_listing, listing}
 
@@ -13,17 +13,17 @@ unfolding images decimal_in decimal field line lines number_fields body_listing 
 listed = tt
 
 -- header 1 80 0178 02 4096 58, id, pair, key
-unfoldable pub of_H_text : List ℕ
-of_H_text =
+unfoldable pub of_h_text : List ℕ
+of_h_text =
     0x68 ∷ 0x65 ∷ 0x61 ∷ 0x64 ∷ 0x65 ∷ 0x72 ∷ 0x09 ∷ 0x31 ∷ 0x09 ∷ 0x38 ∷ 0x30 ∷ 0x09 ∷ 0x30 ∷ 0x31 ∷ 0x37 ∷ 0x38 ∷ 0x09 ∷ 0x30 ∷ 0x32 ∷ 0x09 ∷ 0x34 ∷ 0x30 ∷ 0x39 ∷ 0x36 ∷ 0x09 ∷ 0x35 ∷ 0x38 ∷ 0x0A
     ∷ 0x69 ∷ 0x64 ∷ 0x09 ∷ 0x30 ∷ 0x30 ∷ 0x30 ∷ 0x31 ∷ 0x30 ∷ 0x32 ∷ 0x30 ∷ 0x33 ∷ 0x30 ∷ 0x34 ∷ 0x30 ∷ 0x35 ∷ 0x30 ∷ 0x36 ∷ 0x30 ∷ 0x37 ∷ 0x30 ∷ 0x38 ∷ 0x30 ∷ 0x39 ∷ 0x30 ∷ 0x61 ∷ 0x30 ∷ 0x62 ∷ 0x30 ∷ 0x63 ∷ 0x30 ∷ 0x64 ∷ 0x30 ∷ 0x65 ∷ 0x30 ∷ 0x66 ∷ 0x0A
     ∷ 0x70 ∷ 0x61 ∷ 0x69 ∷ 0x72 ∷ 0x09 ∷ 0x36 ∷ 0x63 ∷ 0x36 ∷ 0x31 ∷ 0x36 ∷ 0x65 ∷ 0x36 ∷ 0x37 ∷ 0x09 ∷ 0x36 ∷ 0x33 ∷ 0x37 ∷ 0x39 ∷ 0x0A
     ∷ 0x6B ∷ 0x65 ∷ 0x79 ∷ 0x09 ∷ 0x37 ∷ 0x30 ∷ 0x33 ∷ 0x31 ∷ 0x09 ∷ 0x36 ∷ 0x31 ∷ 0x09 ∷ 0x61 ∷ 0x61 ∷ 0x62 ∷ 0x62 ∷ 0x63 ∷ 0x63 ∷ 0x0A
     ∷ []
 
-pub of_H : listing H ≡ of_H_text
-unfolding opened listed H of_H_text
-of_H = refl
+pub of_h : listing H ≡ of_h_text
+unfolding opened listed H of_h_text
+of_h = refl
 
 -- refused 2 1
 unfoldable pub of_nothing_text : List ℕ
@@ -36,14 +36,14 @@ unfolding opened listed of_nothing_text
 of_nothing = refl
 
 -- H without its last byte: refused 2 58
-unfoldable pub of_H_cut_text : List ℕ
-of_H_cut_text =
+unfoldable pub of_h_cut_text : List ℕ
+of_h_cut_text =
     0x72 ∷ 0x65 ∷ 0x66 ∷ 0x75 ∷ 0x73 ∷ 0x65 ∷ 0x64 ∷ 0x09 ∷ 0x32 ∷ 0x09 ∷ 0x35 ∷ 0x38 ∷ 0x0A
     ∷ []
 
-pub of_H_cut : listing (take 57 H) ≡ of_H_cut_text
-unfolding opened listed H of_H_cut_text
-of_H_cut = refl
+pub of_h_cut : listing (take 57 H) ≡ of_h_cut_text
+unfolding opened listed H of_h_cut_text
+of_h_cut = refl
 
 -- H with 00 02 00 00 for its context: no pair, tail 48
 unfoldable pub of_the_old_form_text : List ℕ
@@ -53,8 +53,8 @@ of_the_old_form_text =
     ∷ 0x6B ∷ 0x65 ∷ 0x79 ∷ 0x09 ∷ 0x37 ∷ 0x30 ∷ 0x33 ∷ 0x31 ∷ 0x09 ∷ 0x36 ∷ 0x31 ∷ 0x09 ∷ 0x61 ∷ 0x61 ∷ 0x62 ∷ 0x62 ∷ 0x63 ∷ 0x63 ∷ 0x0A
     ∷ []
 
-pub of_the_old_form : listing (H-with (0x00 ∷ 0x02 ∷ 0x00 ∷ 0x00 ∷ [])) ≡ of_the_old_form_text
-unfolding opened listed H H-with of_the_old_form_text
+pub of_the_old_form : listing (h_with (0x00 ∷ 0x02 ∷ 0x00 ∷ 0x00 ∷ [])) ≡ of_the_old_form_text
+unfolding opened listed H h_with of_the_old_form_text
 of_the_old_form = refl
 
 -- type 00, an empty provider info between its tabs, the suite data

@@ -10,7 +10,7 @@ use Rattle.format.specs.Read.{Answer, accepted, refused, operation}
 use Rattle.format.specs.Serialize.{Bytes}
 use Rattle.format.specs.Fields.{today, Pair, PairAt, pair_of, HeaderBody, fields_of}
 use Rattle.format.specs.Context.{tolerant, read_aad_section, write_aad_pair, write_aad_section}
-use Rattle.format.specs.Checks.{check, first, pairs_checks}
+use Rattle.format.specs.Checks.{check, pairs_checks}
 use Rattle.format.specs.Lent.{bytes_at, filled, pairs_in, table_checks, table_after, writing_aad_section}
 use Rattle.format.specs.OnlyAuthenticated.{write_only_authenticated}
 use Rattle.format.specs.Mending.{read_draft, dropped_image}
@@ -75,11 +75,11 @@ module _ (c : Section) (call : Wrote c) where
 joined : (joined one two : Section) → Wrote joined → Wrote one → Wrote two
     → pairs_in joined.text joined.table ≡ pairs_in one.text one.table ++ pairs_in two.text two.table
     → (n : ℕ) → joined.answer ≡ Written n → Lends one n → Lends two n → JoinedCalls joined one two n
-joined c one two call call_one call_two are n e Lends-one lends_two =
+joined c one two call call_one call_two are n e lends_one lends_two =
     let (good, long, out) = was_accepted c call n e in
     let law = arrangement.joined (pairs one call_one) (pairs two call_two) (rw are at good) in
     let size : n ≡ length (write_aad_section (pairs one call_one ++ pairs two call_two)) = long ∙ ap (λ ps. length (write_aad_section ps)) are in
-    let (w_one, out_one) = is_accepted one call_one n Lends-one law.first_accepted (let h = law.first_not_longer in omega arith) in
+    let (w_one, out_one) = is_accepted one call_one n lends_one law.first_accepted (let h = law.first_not_longer in omega arith) in
     let (w_two, out_two) = is_accepted two call_two n lends_two law.second_accepted (let h = law.second_not_longer in omega arith) in
     record {
       first_tail = length (image one call_one);

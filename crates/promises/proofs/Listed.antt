@@ -28,10 +28,10 @@ use Rattle.checks.specs.declared.WriteAnswer.TheVariants as write
 use Rattle.promises.specs.Listed.{ByFirst, AuthByFirst, ListedPromises}
 
 -- an answer enum that keeps a refusal apart from what is accepted
-module _ {A R : Type 0} (code : Answer A → R) (IsRefused-as : Refusal → R)
-    (back : (o : Answer A) (q : Refusal) → code o ≡ IsRefused-as q → o ≡ refused q.number q.position) (there : (k p : ℕ) → code (refused k p) ≡ IsRefused-as (because k p)) where
+module _ {A R : Type 0} (code : Answer A → R) (refused_as : Refusal → R)
+    (back : (o : Answer A) (q : Refusal) → code o ≡ refused_as q → o ≡ refused q.number q.position) (there : (k p : ℕ) → code (refused k p) ≡ refused_as (because k p)) where
   by_first : {r : Reader A} {list : List ℕ → ℕ → List Line} {here : List ℕ → ℕ → A} {end : List ℕ → ℕ → ℕ} {m : List ℕ} {s : ℕ} → FirstRefusal r list here end m s
-      → (x : R) → x ≡ code (operation r m s) → ByFirst IsRefused-as (operation_list list m s) (code (accepted (here m s) (end m s))) x
+      → (x : R) → x ≡ code (operation r m s) → ByFirst refused_as (operation_list list m s) (code (accepted (here m s) (end m s))) x
   by_first {r} {list} {here} {end} {m} {s} law x e =
       record {
         refuses = λ q f. law.refuses q.number q.position (back (operation r m s) q (sym e ∙ f));

@@ -1,5 +1,5 @@
 -- Demand 3 of the body reader's calls: the definition's, by the contract. Assumes nothing.
-use Prim.Native.Nat.{ℕ, ◌+◌, ◌≤◌, ◌<◌}
+use Prim.Native.Nat.{ℕ, ◌≤◌}
 use native.Mathlib.Omega.{arith}
 use mathlib.Core.Path.{◌≡◌, refl, sym, ap, ◌∙◌}
 use mathlib.Core.Bool.{Bool, true, false, cond}
@@ -12,10 +12,10 @@ use Rattle.format.specs.Fields.{HeaderBody as BodyRead}
 use Rattle.format.specs.Context.{Mode, tolerant, strict}
 use Rattle.format.specs.Keys.{Max}
 use Rattle.format.specs.Policies.{Policy, no_policy}
-use Rattle.format.specs.Body.{Which, either, tests_frames, request_under, read_body, read_header_body_under}
+use Rattle.format.specs.Body.{Which, either, tests_frames, request_under, read_header_body_under}
 use Rattle.format.specs.Places.{body_here, body_end}
-use Rattle.format.specs.First.{FirstApplies, FirstRefusal, body_list}
-use Rattle.format.specs.Demand3.{Stands, Gives, reaches_old}
+use Rattle.format.specs.First.{FirstRefusal, body_list}
+use Rattle.format.specs.Demand3.{Gives, reaches_old}
 use Rattle.format.proofs.FirstBody.{first_refusals}
 use Rattle.format.proofs.Filled.{pair_table, key_table}
 use Rattle.format.proofs.Demand3.{demand_3}

@@ -31,10 +31,10 @@ use Rattle.promises.proofs.Listed.{back_context, back_found, back_keys, back_wri
 use Rattle.promises.proofs.Reader.{refused_is}
 
 -- an answer enum that keeps a refusal apart from what is accepted
-module _ {A R : Type 0} (code : Answer A → R) (IsRefused-as : Refusal → R)
-    (back : (o : Answer A) (q : Refusal) → code o ≡ IsRefused-as q → o ≡ refused q.number q.position) (there : (k p : ℕ) → code (refused k p) ≡ IsRefused-as (because k p))
+module _ {A R : Type 0} (code : Answer A → R) (refused_as : Refusal → R)
+    (back : (o : Answer A) (q : Refusal) → code o ≡ refused_as q → o ≡ refused q.number q.position) (there : (k p : ℕ) → code (refused k p) ≡ refused_as (because k p))
     (no_key : Type 0) (ours source : Answer A) (law : Beside no_key ours source) (r : R) (is : r ≡ code ours) where
-  by_source : BySource no_key code IsRefused-as source r
+  by_source : BySource no_key code refused_as source r
   by_source =
       record {
         alike = λ no none. is ∙ ap code (law.alike (λ p e. no p (is ∙ ap code e ∙ there 32 p)) (λ e. none (is ∙ ap code e ∙ there 38 0)));
@@ -43,7 +43,7 @@ module _ {A R : Type 0} (code : Answer A → R) (IsRefused-as : Refusal → R)
         never_13 = λ p e. law.never_13 p (back ours (because 13 p) (sym is ∙ e));
       }
 
-  leaves : (numbers : A → List ℕ) (before after : List ℕ) → Reads code numbers ours before after r → Leaves no_key code IsRefused-as numbers source before after r
+  leaves : (numbers : A → List ℕ) (before after : List ℕ) → Reads code numbers ours before after r → Leaves no_key code refused_as numbers source before after r
   leaves numbers before after call =
       record { answer = by_source; table = λ some. call.table ∙ law.table some numbers before; kept = λ k. call.table ∙ ap (λ o. table_after numbers o before) (law.no_key_there.back k) }
 

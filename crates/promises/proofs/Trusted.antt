@@ -23,7 +23,6 @@ use Rattle.wire.specs.declared.Refusal.{Refusal}
 use Rattle.entries.specs.Codes.{Reads}
 use Rattle.context.specs.Codes.{context_of, found_of}
 use Rattle.context.specs.declared.ContextAnswer.TheVariants as context
-use Rattle.context.specs.declared.FoundAnswer.TheVariants as found
 use Rattle.keys.specs.Codes.{keys_of}
 use Rattle.keys.specs.declared.KeysAnswer.TheVariants as keys
 use Rattle.frames.specs.Codes.{frames_of}
@@ -57,15 +56,15 @@ rounds_as size f [] n h = tt
 rounds_as size f (p ∷ ps) n (h, e, rest) = (h, f n p e, rounds_as size f ps p rest)
 
 -- an answer, and a table afterwards
-module _ {A R : Type 0} (code : Answer A → R) (numbers : A → List ℕ) (IsRefused-as : Refusal → R)
-    (back : (o : Answer A) (q : Refusal) → code o ≡ IsRefused-as q → o ≡ refused q.number q.position) (there : (p : ℕ) → code (refused 2 p) ≡ IsRefused-as (because 2 p)) where
+module _ {A R : Type 0} (code : Answer A → R) (numbers : A → List ℕ) (refused_as : Refusal → R)
+    (back : (o : Answer A) (q : Refusal) → code o ≡ refused_as q → o ≡ refused q.number q.position) (there : (p : ℕ) → code (refused 2 p) ≡ refused_as (because 2 p)) where
   with_table : {n n' : ℕ} {x y : Answer A} → TwoRuns (refused 2) n n' x y → (before after after' : List ℕ) (r r' : R) → Reads code numbers x before after r → Reads code numbers y before after' r'
       → TwoRuns (λ p. left (code (refused 2 p)) before) n n' (left r after) (left r' after')
   with_table law before after after' r r' c d =
       carried (λ o. left (code o) (table_after numbers o before)) (λ o p e. back o (because 2 p) (ap (λ (z : Left R). z.answer) e ∙ there p)) law (left r after) (left r' after')
       (rw (c.answer, c.table) refl) (rw (d.answer, d.table) refl)
 
-  calls_say : (r : Reader A) (m : List ℕ) (s : ℕ) (before : List ℕ) (n p : ℕ) → Says code numbers IsRefused-as r m s before n p → operation r (take n m) s ≡ refused 2 p
+  calls_say : (r : Reader A) (m : List ℕ) (s : ℕ) (before : List ℕ) (n p : ℕ) → Says code numbers refused_as r m s before n p → operation r (take n m) s ≡ refused 2 p
   calls_say r m s before n p (after, x, call, short) = back (operation r (take n m) s) (because 2 p) (sym call.answer ∙ short)
 
 back_auth : (o : Answer HeaderAuth) (p : ℕ) → auth_of o ≡ auth_of (refused 2 p) → o ≡ refused 2 p

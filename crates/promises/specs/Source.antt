@@ -35,15 +35,15 @@ use Rattle.promises.specs.Size.{Tells}
 
 -- an answer that is neither 32 nor 38 is that of the source's reading; it is 38 where a key count of 0 stands there, and nowhere else; where it
 -- is 32, the source's reading refuses too; and it is never 13
-pub record BySource {A R : Type 0} (no_key : Type 0) (code : Answer A → R) (IsRefused-as : Refusal → R) (source : Answer A) (r : R) : Type 0 where
-  pub alike : ((p : ℕ) → r ≡ IsRefused-as (because 32 p) → ⊥) → (r ≡ IsRefused-as (because 38 0) → ⊥) → r ≡ code source
-  pub no_key_there : JustWhere (r ≡ IsRefused-as (because 38 0)) no_key
-  pub both_refuse : (p : ℕ) → r ≡ IsRefused-as (because 32 p) → (k : ℕ) × (q : ℕ) × (source ≡ refused k q)
-  pub never_13 : (p : ℕ) → r ≡ IsRefused-as (because 13 p) → ⊥
+pub record BySource {A R : Type 0} (no_key : Type 0) (code : Answer A → R) (refused_as : Refusal → R) (source : Answer A) (r : R) : Type 0 where
+  pub alike : ((p : ℕ) → r ≡ refused_as (because 32 p) → ⊥) → (r ≡ refused_as (because 38 0) → ⊥) → r ≡ code source
+  pub no_key_there : JustWhere (r ≡ refused_as (because 38 0)) no_key
+  pub both_refuse : (p : ℕ) → r ≡ refused_as (because 32 p) → (k : ℕ) × (q : ℕ) × (source ≡ refused k q)
+  pub never_13 : (p : ℕ) → r ≡ refused_as (because 13 p) → ⊥
 
 -- and what a table or an output holds afterwards is what the source's reading would leave in it, or what it held where there is no key
-pub record Leaves {A R : Type 0} (no_key : Type 0) (code : Answer A → R) (IsRefused-as : Refusal → R) (numbers : A → List ℕ) (source : Answer A) (before after : List ℕ) (r : R) : Type 0 where
-  pub answer : BySource no_key code IsRefused-as source r
+pub record Leaves {A R : Type 0} (no_key : Type 0) (code : Answer A → R) (refused_as : Refusal → R) (numbers : A → List ℕ) (source : Answer A) (before after : List ℕ) (r : R) : Type 0 where
+  pub answer : BySource no_key code refused_as source r
   pub table : (no_key → ⊥) → after ≡ table_after numbers source before
   pub kept : no_key → after ≡ before
 

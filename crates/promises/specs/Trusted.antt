@@ -74,7 +74,7 @@ SaysShortage policy which mode max m s pairs keys n p =
 
 -- THE OTHERS. Some call that meets its contract, on the first n bytes and with that table, says shortage at p
 abbrev pub Says : {A R : Type 0} → (Answer A → R) → (A → List ℕ) → (Refusal → R) → Reader A → List ℕ → ℕ → List ℕ → ℕ → ℕ → Type 0
-Says {A} {R} code numbers IsRefused-as r m s before n p = (after : List ℕ) × (x : R) × Reads code numbers (operation r (take n m) s) before after x × (x ≡ IsRefused-as (because 2 p))
+Says {A} {R} code numbers refused_as r m s before n p = (after : List ℕ) × (x : R) × Reads code numbers (operation r (take n m) s) before after x × (x ≡ refused_as (because 2 p))
 
 pub record TrustedPromises : Type 0 where
   pub of_body : (policy : Policy) (which : Which) (mode : Mode) (max : Max) (m : List ℕ) (s n : ℕ) → length m ≤ 4294967295 → n ≤ length m → (c d : Call)

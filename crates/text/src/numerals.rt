@@ -2,7 +2,7 @@
 ghost use Rattle.std.specs.Prelude.{◌≡◌, ◌+◌, ◌≤◌, ◌<◌, length};
 ghost use Rattle.format.specs.Lent.{bytes_at};
 ghost use Rattle.wire.specs.Stored.{stored};
-ghost use Rattle.text.specs.Text.{decimal as decimal-text, digit as digit-character, hex, hex_byte};
+ghost use Rattle.text.specs.Text.{decimal as decimal_text, digit as digit_character, hex, hex_byte};
 ghost use Rattle.text.specs.Numerals.{Spelled};
 ghost use Rattle.text.specs.Put.{Room, Put, There};
 
@@ -26,15 +26,15 @@ fn spell(n: u64, text: &mut [u8]) -> usize
 
 // How many digits n has.
 pub fn decimal_size(n: u64) -> usize
-    ensures { (result ≡ length (decimal-text n)) × (result ≤ 20) }
+    ensures { (result ≡ length (decimal_text n)) × (result ≤ 20) }
 {
     let mut text = [0u8; 20];
     20 - spell(n, &mut text)
 }
 
 pub(crate) fn put_decimal(n: u64, out: &mut [u8], at: usize) -> usize
-    requires { Room out.old at (decimal-text n) }
-    ensures { Put (decimal-text n) out.old at out.new result }
+    requires { Room out.old at (decimal_text n) }
+    ensures { Put (decimal_text n) out.old at out.new result }
 {
     let mut text = [0u8; 20];
     let from = spell(n, &mut text);
@@ -45,7 +45,7 @@ pub(crate) fn put_decimal(n: u64, out: &mut [u8], at: usize) -> usize
 // The character of a digit below 16.
 fn digit(d: u8) -> u8
     requires { d < 16 }
-    ensures { result ≡ digit-character d }
+    ensures { result ≡ digit_character d }
 {
     if d < 10 { 48 + d } else { 87 + d }
 }

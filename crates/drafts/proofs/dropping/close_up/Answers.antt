@@ -1,6 +1,5 @@
 use Rattle.std.proofs.Common.{rules}
-use Prim.Native.Nat.{◌-◌}
-use Rattle.drafts.proofs.Closing.{Closing, closing_start, key_there, key_within, key_later, closing_step, few_kept, kept_before, closing_end}
+use Rattle.drafts.proofs.Closing.{closing_start, key_there, key_within, key_later, closing_step, few_kept, kept_before, closing_end}
 use Rattle.drafts.proofs.dropping.close_up.Goals as goal
 
 ruleset laws = (closing_start, key_there, key_within, key_later, closing_step, few_kept, kept_before, closing_end, rules)

@@ -1,5 +1,5 @@
 use Prim.Native.Nat.{◌-◌}
-use Rattle.drafts.proofs.Closing.{Closing, closing_start, key_there, key_within, key_later, closing_step, few_kept, kept_before, closing_end}
+use Rattle.drafts.proofs.Closing.{Closing}
 use Rattle.drafts.proofs.dropping.close_up.Given as goal
 
 abbrev pub invariant-loop-i : goal.invariant-loop-i

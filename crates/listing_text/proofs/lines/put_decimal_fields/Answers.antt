@@ -1,0 +1,8 @@
+use Rattle.std.proofs.Common.{rules}
+use Rattle.text.proofs.Puts.{room_first, room_next, put_then}
+use Rattle.listing_text.proofs.lines.put_decimal_fields.Goals as goal
+
+ruleset laws = (room_first, room_next, put_then, rules)
+
+pub returns : goal.returns
+returns c = search laws
