@@ -1,6 +1,5 @@
 use Rattle.std.proofs.Common.{rules}
-use Prim.Native.Nat.{◌-◌}
-use Rattle.listing_text.proofs.SizeLaws.{Counted, counted_start, counted_more, counted_end, counted_few}
+use Rattle.listing_text.proofs.SizeLaws.{counted_start, counted_more, counted_end, counted_few}
 use Rattle.listing_text.proofs.sizes.parts_size.Goals as goal
 
 ruleset laws = (counted_start, counted_more, counted_end, counted_few, rules)

@@ -1,5 +1,5 @@
 use Prim.Native.Nat.{◌-◌}
-use Rattle.listing_text.proofs.SizeLaws.{Counted, counted_start, counted_more, counted_end, counted_few}
+use Rattle.listing_text.proofs.SizeLaws.{Counted}
 use Rattle.listing_text.proofs.sizes.parts_size.Given as goal
 
 abbrev pub invariant-loop-i : goal.invariant-loop-i
