@@ -42,68 +42,68 @@ body_1 = one_with 0x0178 id
 abbrev body_2 : BodyToWrite
 body_2 = two_with 0x0578 (zeros 32)
 
-abbrev FORBID-ALLOW : Policy
-FORBID-ALLOW = forbid_encrypt_allow_decrypt
+abbrev forbid_allow : Policy
+forbid_allow = forbid_encrypt_allow_decrypt
 
-abbrev REQUIRE-ALLOW : Policy
-REQUIRE-ALLOW = require_encrypt_allow_decrypt
+abbrev require_allow : Policy
+require_allow = require_encrypt_allow_decrypt
 
-abbrev REQUIRE-REQUIRE : Policy
-REQUIRE-REQUIRE = require_encrypt_require_decrypt
+abbrev require_require : Policy
+require_require = require_encrypt_require_decrypt
 
 unfoldable pub ruled : List Ruled
 ruled =
     -- who reads which version
     reads no_policy either tolerant H h_read
     ∷ reads no_policy either tolerant V2 v2_read
-    ∷ reads FORBID-ALLOW either tolerant H h_read
-    ∷ reads FORBID-ALLOW either tolerant V2 v2_read
-    ∷ reads FORBID-ALLOW v1_only tolerant H h_read
-    ∷ reads FORBID-ALLOW v2_only tolerant V2 v2_read
-    ∷ reads REQUIRE-ALLOW either tolerant H h_read
-    ∷ reads REQUIRE-ALLOW either tolerant V2 v2_read
-    ∷ reads REQUIRE-ALLOW v1_only tolerant H h_read
-    ∷ reads REQUIRE-ALLOW v2_only tolerant V2 v2_read
-    ∷ reads REQUIRE-REQUIRE either tolerant H (refuses 39 0)
-    ∷ reads REQUIRE-REQUIRE either strict H (refuses 39 0)
-    ∷ reads REQUIRE-REQUIRE v1_only tolerant H (refuses 39 0)
-    ∷ reads REQUIRE-REQUIRE v1_only strict H (refuses 39 0)
-    ∷ reads REQUIRE-REQUIRE either tolerant V2 v2_read
-    ∷ reads REQUIRE-REQUIRE either strict V2 v2_read
-    ∷ reads REQUIRE-REQUIRE v2_only tolerant V2 v2_read
-    ∷ reads REQUIRE-REQUIRE v2_only strict V2 v2_read
+    ∷ reads forbid_allow either tolerant H h_read
+    ∷ reads forbid_allow either tolerant V2 v2_read
+    ∷ reads forbid_allow v1_only tolerant H h_read
+    ∷ reads forbid_allow v2_only tolerant V2 v2_read
+    ∷ reads require_allow either tolerant H h_read
+    ∷ reads require_allow either tolerant V2 v2_read
+    ∷ reads require_allow v1_only tolerant H h_read
+    ∷ reads require_allow v2_only tolerant V2 v2_read
+    ∷ reads require_require either tolerant H (refuses 39 0)
+    ∷ reads require_require either strict H (refuses 39 0)
+    ∷ reads require_require v1_only tolerant H (refuses 39 0)
+    ∷ reads require_require v1_only strict H (refuses 39 0)
+    ∷ reads require_require either tolerant V2 v2_read
+    ∷ reads require_require either strict V2 v2_read
+    ∷ reads require_require v2_only tolerant V2 v2_read
+    ∷ reads require_require v2_only strict V2 v2_read
     -- 4 and 7 before 39
-    ∷ reads REQUIRE-REQUIRE v2_only tolerant H (refuses 4 0)
-    ∷ reads REQUIRE-REQUIRE either tolerant (0x01 ∷ 0x81 ∷ []) (refuses 5 0)
-    ∷ reads REQUIRE-REQUIRE either tolerant (0x01 ∷ 0x80 ∷ 0x01 ∷ []) (shortage_at 4)
-    ∷ reads REQUIRE-REQUIRE either tolerant (0x01 ∷ 0x80 ∷ 0x00 ∷ 0x00 ∷ []) (refuses 6 0)
-    ∷ reads REQUIRE-REQUIRE either tolerant (0x01 ∷ 0x80 ∷ 0x04 ∷ 0x78 ∷ []) (refuses 7 0)
-    ∷ reads REQUIRE-REQUIRE either tolerant (0x02 ∷ 0x01 ∷ 0x78 ∷ []) (refuses 7 0)
+    ∷ reads require_require v2_only tolerant H (refuses 4 0)
+    ∷ reads require_require either tolerant (0x01 ∷ 0x81 ∷ []) (refuses 5 0)
+    ∷ reads require_require either tolerant (0x01 ∷ 0x80 ∷ 0x01 ∷ []) (shortage_at 4)
+    ∷ reads require_require either tolerant (0x01 ∷ 0x80 ∷ 0x00 ∷ 0x00 ∷ []) (refuses 6 0)
+    ∷ reads require_require either tolerant (0x01 ∷ 0x80 ∷ 0x04 ∷ 0x78 ∷ []) (refuses 7 0)
+    ∷ reads require_require either tolerant (0x02 ∷ 0x01 ∷ 0x78 ∷ []) (refuses 7 0)
     -- and 39 before the ID, and whatever else is wrong
-    ∷ reads REQUIRE-REQUIRE either tolerant (take 4 H) (refuses 39 0)
-    ∷ reads REQUIRE-REQUIRE either tolerant (take 19 H) (refuses 39 0)
-    ∷ reads REQUIRE-REQUIRE v1_only strict (take 20 H ++ (0x00 ∷ 0x02 ∷ 0x00 ∷ 0x00 ∷ [])) (refuses 39 0)
-    ∷ reads REQUIRE-REQUIRE either tolerant (take 34 H ++ (0x00 ∷ 0x00 ∷ drop 48 H)) (refuses 39 0)
-    ∷ reads REQUIRE-REQUIRE either tolerant (take 3 V2) (shortage_at 35)
-    ∷ reads REQUIRE-ALLOW either tolerant (take 4 H) (shortage_at 20)
-    ∷ reads FORBID-ALLOW either tolerant (take 3 V2) (shortage_at 35)
+    ∷ reads require_require either tolerant (take 4 H) (refuses 39 0)
+    ∷ reads require_require either tolerant (take 19 H) (refuses 39 0)
+    ∷ reads require_require v1_only strict (take 20 H ++ (0x00 ∷ 0x02 ∷ 0x00 ∷ 0x00 ∷ [])) (refuses 39 0)
+    ∷ reads require_require either tolerant (take 34 H ++ (0x00 ∷ 0x00 ∷ drop 48 H)) (refuses 39 0)
+    ∷ reads require_require either tolerant (take 3 V2) (shortage_at 35)
+    ∷ reads require_allow either tolerant (take 4 H) (shortage_at 20)
+    ∷ reads forbid_allow either tolerant (take 3 V2) (shortage_at 35)
     -- who writes which version
     ∷ writes no_policy body_1 0
     ∷ writes no_policy body_2 0
-    ∷ writes FORBID-ALLOW body_1 0
-    ∷ writes FORBID-ALLOW body_2 39
-    ∷ writes REQUIRE-ALLOW body_1 39
-    ∷ writes REQUIRE-ALLOW body_2 0
-    ∷ writes REQUIRE-REQUIRE body_1 39
-    ∷ writes REQUIRE-REQUIRE body_2 0
+    ∷ writes forbid_allow body_1 0
+    ∷ writes forbid_allow body_2 39
+    ∷ writes require_allow body_1 39
+    ∷ writes require_allow body_2 0
+    ∷ writes require_require body_1 39
+    ∷ writes require_require body_2 0
     -- 7 before 39, and 39 before 24
-    ∷ writes REQUIRE-ALLOW (one_with 0x0000 []) 6
-    ∷ writes REQUIRE-ALLOW (one_with 0x0478 []) 7
-    ∷ writes FORBID-ALLOW (two_with 0x0178 []) 7
-    ∷ writes REQUIRE-ALLOW (one_with 0x0178 []) 39
-    ∷ writes FORBID-ALLOW (two_with 0x0478 id) 39
-    ∷ writes FORBID-ALLOW (one_with 0x0178 []) 24
-    ∷ writes REQUIRE-ALLOW (two_with 0x0478 id) 24
+    ∷ writes require_allow (one_with 0x0000 []) 6
+    ∷ writes require_allow (one_with 0x0478 []) 7
+    ∷ writes forbid_allow (two_with 0x0178 []) 7
+    ∷ writes require_allow (one_with 0x0178 []) 39
+    ∷ writes forbid_allow (two_with 0x0478 id) 39
+    ∷ writes forbid_allow (one_with 0x0178 []) 24
+    ∷ writes require_allow (two_with 0x0478 id) 24
     ∷ []
 
 pub all_obeyed : every obeyed ruled ≡ true
