@@ -29,7 +29,7 @@ fn list(m: &[u8], out: &mut [u8]) -> usize
     }
 }
 
-// The language has no exit status, so that a listing that could not be written whole is told from one that was by what is said here.
+// The exit status is 0 either way, so a listing that could not be written whole is told from one that was by what is said here.
 fn complain() {
     let said = b"listing: standard output could not be written\n";
     io::write_all(STDERR_FILENO, said);
