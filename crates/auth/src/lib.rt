@@ -3,46 +3,42 @@
 
 mod reading;
 
-ghost use Rattle.std.specs.Prelude.{◌≡◌, ◌<◌, length};
-ghost use Rattle.format.specs.Read.{at, operation};
+ghost use Rattle.std.specs.Prelude.{◌≡◌};
+ghost use Rattle.format.specs.Read.{operation};
 ghost use Rattle.format.specs.Auth.{read_header_auth_tag as record_of};
+ghost use Rattle.wire.specs.Buffer.{from};
 ghost use Rattle.auth.specs.Codes.{auth_of};
 
-use suites::{Suite, SuiteAnswer};
-use wire::{refusals, refuse};
+use suites::Suite;
+use wire::SuccessfulRead;
+use wire::buffer::ReadableBuffer;
+use wire::refusals::{Reason, Refusal};
 
-// What reading a record answers: number 0 and the tail with the record; or a refusal, and then the record is all 00. An enum
-// holds no array, so this is a struct.
+// The source's AESMac. Version 2 has no IV, and the one that is read is all 00.
 #[derive(Clone, Copy)]
-pub struct AuthRead {
-    pub number: u8,
-    pub position: u64,
-    pub tail: u64,
-    pub iv: [u8; 12],
-    pub tag: [u8; 16],
+pub struct HeaderAuth {
+    pub iv: [u8; Suite::IV_LEN],
+    pub tag: [u8; Suite::TAG_LEN],
 }
 
-// A record at a place, without refusal 1.
-fn record_at(m: &[u8], start: u64, suite: u32) -> AuthRead
-    requires { (start < 4294967296) × (length m.now < 4294967296) }
-    ensures { result ≡ auth_of (at (record_of suite) m.now start) }
+// A record, behind refusal 1.
+fn record_at(buffer: ReadableBuffer, suite: u32) -> Result<SuccessfulRead<HeaderAuth>, Refusal>
+    ensures { result ≡ auth_of (from (record_of suite) buffer.entry) }
 {
-    let s = Suite::from_number(suite);
-    let SuiteAnswer::Known(known) = s else {
-        return reading::refused(refuse(refusals::UNKNOWN_SUITE));
-    };
-    if known.version == 1 {
-        return reading::record_v1(m, start);
+    let suite = Suite::from_number(suite).ok_or(Reason::UnknownSuite)?;
+    if suite.version == 1 {
+        return reading::read_header_auth_tag_v1(buffer);
     }
-    reading::record_v2(m, start)
+    reading::read_header_auth_tag_v2(buffer)
 }
 
 // ReadHeaderAuthTag.
-pub fn read_header_auth_tag(m: &[u8], start: u64, suite: u32) -> AuthRead
+pub fn read_header_auth_tag(
+    m: &[u8],
+    start: u64,
+    suite: u32,
+) -> Result<SuccessfulRead<HeaderAuth>, Refusal>
     ensures { result ≡ auth_of (operation (record_of suite) m.now start) }
 {
-    if wire::reading::is_addressable(m, start) {
-        return record_at(m, start, suite);
-    }
-    reading::refused(refuse(refusals::NOT_ADDRESSABLE))
+    record_at(ReadableBuffer::new(m, start)?, suite)
 }

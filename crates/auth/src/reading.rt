@@ -1,105 +1,60 @@
 // An authentication record of each version, at a place of a message.
-ghost use Rattle.std.specs.Prelude.{◌≡◌, true, false, ◌+◌, ◌≤◌, ◌<◌, length};
-ghost use Rattle.format.specs.Read.{at};
-ghost use Rattle.format.specs.Auth.{zeros, read_header_auth_tag_of};
+ghost use Rattle.std.specs.Prelude.{◌≡◌, true, false, ◌+◌, ◌≤◌, length};
+ghost use Rattle.format.specs.Auth.{read_header_auth_tag_of};
 ghost use Rattle.format.specs.Lent.{bytes_at};
-ghost use Rattle.auth.specs.Codes.{read_tag, auth_of, no_auth};
+ghost use Rattle.wire.specs.Buffer.{from};
+ghost use Rattle.auth.specs.Codes.{read_tag, auth_of};
 
-use super::AuthRead;
+use super::HeaderAuth;
 use suites::Suite;
-use wire::{Refusal, Span, reading, refusals, writing};
+use wire::SuccessfulRead;
+use wire::buffer::ReadableBuffer;
+use wire::refusals::Refusal;
 
-// GetIvLengthZeros.
-fn no_iv() -> [u8; Suite::IV_LEN]
-    ensures { result ≡ zeros 12 }
+// The bytes that are known to stand at a place: an IV, and a tag. An array, since C's record has them by value.
+fn bytes_at<const N: usize>(m: &[u8], s: u64) -> [u8; N]
+    requires { s + N ≤ length m.now }
+    ensures { result ≡ bytes_at m.now s N }
 {
-    [0u8; Suite::IV_LEN]
-}
-
-fn no_tag() -> [u8; Suite::TAG_LEN]
-    ensures { result ≡ zeros 16 }
-{
-    [0u8; Suite::TAG_LEN]
-}
-
-// The IV, and the tag, that are known to stand at a place.
-fn iv_at(m: &[u8], s: u64) -> [u8; Suite::IV_LEN]
-    requires { s + 12 ≤ length m.now }
-    ensures { result ≡ bytes_at m.now s 12 }
-{
-    let mut iv = [0u8; Suite::IV_LEN];
-    writing::write(m, s as usize, Suite::IV_LEN, &mut iv, 0);
-    iv
-}
-
-fn tag_at(m: &[u8], s: u64) -> [u8; Suite::TAG_LEN]
-    requires { s + 16 ≤ length m.now }
-    ensures { result ≡ bytes_at m.now s 16 }
-{
-    let mut tag = [0u8; Suite::TAG_LEN];
-    writing::write(m, s as usize, Suite::TAG_LEN, &mut tag, 0);
-    tag
-}
-
-pub fn refused(why: Refusal) -> AuthRead
-    ensures { result ≡ no_auth why }
-{
-    let iv = no_iv();
-    let tag = no_tag();
-    AuthRead {
-        number: why.number,
-        position: why.position,
-        tail: 0,
-        iv,
-        tag,
-    }
+    let mut bytes = [0u8; N];
+    let start = s as usize;
+    bytes.copy_from_slice(&m[start..start + N]);
+    bytes
 }
 
 // The tag, behind an IV: what both versions end with.
-fn record_with(m: &[u8], s: u64, iv: [u8; Suite::IV_LEN]) -> AuthRead
-    requires { (s < 4294967296) × (length m.now < 4294967296) }
-    ensures { result ≡ auth_of (at (read_tag iv) m.now s) }
+fn read_tag(
+    buffer: ReadableBuffer,
+    iv: [u8; Suite::IV_LEN],
+) -> Result<SuccessfulRead<HeaderAuth>, Refusal>
+    ensures { result ≡ auth_of (from (read_tag iv) buffer.entry) }
 {
-    let t = reading::read_some_bytes(m, s, Suite::TAG_LEN as u64);
-    let Span::At {
-        start,
-        len: _,
-        tail,
-    } = t
-    else {
-        return refused(t.refusal());
-    };
-    let tag = tag_at(m, start);
-    AuthRead {
-        number: refusals::NONE,
-        position: 0,
-        tail,
+    let tag = buffer.read_some_bytes(Suite::TAG_LEN as u64)?;
+    let value = HeaderAuth {
         iv,
-        tag,
-    }
+        tag: bytes_at(buffer.bytes, tag.start),
+    };
+    Ok(SuccessfulRead {
+        value,
+        tail: tag.tail,
+    })
 }
 
 // ReadHeaderAuthTagV1.
-pub fn record_v1(m: &[u8], s: u64) -> AuthRead
-    requires { (s < 4294967296) × (length m.now < 4294967296) }
-    ensures { result ≡ auth_of (at (read_header_auth_tag_of true) m.now s) }
+pub fn read_header_auth_tag_v1(
+    buffer: ReadableBuffer,
+) -> Result<SuccessfulRead<HeaderAuth>, Refusal>
+    ensures { result ≡ auth_of (from (read_header_auth_tag_of true) buffer.entry) }
 {
-    let i = reading::read_some_bytes(m, s, Suite::IV_LEN as u64);
-    let Span::At {
-        start,
-        len: _,
-        tail,
-    } = i
-    else {
-        return refused(i.refusal());
-    };
-    record_with(m, tail, iv_at(m, start))
+    let iv = buffer.read_some_bytes(Suite::IV_LEN as u64)?;
+    read_tag(buffer.at(iv.tail), bytes_at(buffer.bytes, iv.start))
 }
 
 // ReadHeaderAuthTagV2: there is no IV, and the one that is read is all 00.
-pub fn record_v2(m: &[u8], s: u64) -> AuthRead
-    requires { (s < 4294967296) × (length m.now < 4294967296) }
-    ensures { result ≡ auth_of (at (read_header_auth_tag_of false) m.now s) }
+pub fn read_header_auth_tag_v2(
+    buffer: ReadableBuffer,
+) -> Result<SuccessfulRead<HeaderAuth>, Refusal>
+    ensures { result ≡ auth_of (from (read_header_auth_tag_of false) buffer.entry) }
 {
-    record_with(m, s, no_iv())
+    read_tag(buffer, [0u8; Suite::IV_LEN])
 }

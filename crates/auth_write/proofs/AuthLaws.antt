@@ -14,19 +14,19 @@ use Rattle.format.specs.Lent.{writing_header_auth_tag}
 use Rattle.format.proofs.Firsts.{holds, first_pass, first_stop}
 use Rattle.suites.specs.Table.{suite_of}
 use Rattle.suites.specs.declared.Suite.{Suite}
-use Rattle.suites.specs.declared.SuiteAnswer.{SuiteAnswer}
-use Rattle.suites.specs.declared.SuiteAnswer.TheVariants.{Known, Unknown}
 use Rattle.suites.proofs.Answers.{unknown, its_version, in_table}
 use Rattle.wire.specs.Codes.{because}
 use Rattle.wire.specs.Stored.{stored}
-use Rattle.checks.specs.Answers.{checked, Writes}
-use Rattle.checks.specs.declared.Checked.{Checked}
-use Rattle.checks.specs.declared.Checked.TheVariants.{Passes, Fails}
-use Rattle.checks.specs.declared.WriteAnswer.{WriteAnswer}
-use Rattle.checks.specs.declared.WriteAnswer.TheVariants.{Refused}
+use Rattle.checks.specs.Answers.{Checked, checked, Writes}
 use Rattle.checks.proofs.Stages.{stage_none}
 use Rattle.checks.proofs.Writers.{chain, whole_bytes, writes_fails}
 use Rattle.auth_write.specs.Ready.{auth_image, AuthReady}
+use Rattle.std.specs.Option.{ok_or}
+use Rattle.wire.specs.Reasons.{number_of}
+use Rattle.wire.specs.declared.refusals.Reason.TheVariants.{UnknownSuite}
+use Rattle.wire.specs.declared.refusals.Reason.{Reason}
+use Rattle.std.specs.Prelude.{Result, Ok, Err, Option, Some, None}
+use Rattle.wire.specs.declared.refusals.Refusal.{Refusal}
 
 -- by version
 module _ (version : ℕ) where
@@ -62,7 +62,7 @@ long true iv tag e f = simp length-append (omega arith)
 long false iv tag e f = sym f
 
 -- what checks that passed give
-module _ (iv tag : List ℕ) (c : Checked) (is : c ≡ checked (first (sealed_checks (length iv) (length tag)))) (e : c ≡ Passes) where
+module _ (iv tag : List ℕ) (c : Checked) (is : c ≡ checked (first (sealed_checks (length iv) (length tag)))) (e : c ≡ Ok tt) where
   lengths : (length iv ≡ 12) × (length tag ≡ 16)
   lengths = let h = holds (sealed_checks (length iv) (length tag)) (stage_none _ c is e) in (eqb-true _ _ h.0, eqb-true _ _ h.1.0)
 
@@ -70,13 +70,25 @@ module _ (iv tag : List ℕ) (c : Checked) (is : c ≡ checked (first (sealed_ch
   auth_ready version n room q h = record { ivLong = lengths.0; tagLong = lengths.1; fits = rw q at h }
 
 -- the suite, as it was looked up
-module _ (suite : ℕ) (iv tag : List ℕ) (x : SuiteAnswer) (x_is : x ≡ suite_of suite) where
-  pub auth_6 : x ≡ Unknown → (out : List ℕ) (a : WriteAnswer) → a ≡ Refused (because 6 0) → Writes (writing_header_auth_tag suite iv tag) out out a
+module _ (suite : ℕ) (iv tag : List ℕ) (x : Option Suite) (x_is : x ≡ suite_of suite) (y : Result Suite Reason) (made : y ≡ ok_or x UnknownSuite) where
+  pub auth_6 : (e : Reason) → y ≡ Err e → (out : List ℕ) (q : Refusal) → q ≡ because (number_of e) 0 → Writes (writing_header_auth_tag suite iv tag) out out (Err q)
   unfolding writing_header_auth_tag auth_checks
-  auth_6 e out a q =
-      rw q (writes_fails (writing_header_auth_tag suite iv tag) out (Fails (because 6 0)) (sym (ap checked (first_stop 6 (known suite) _ (unknown suite x x_is e)))) (because 6 0) refl)
+  auth_6 e f out q g = by x refl
+    where
+      by : (o : Option Suite) → x ≡ o → Writes (writing_header_auth_tag suite iv tag) out out (Err q)
+      by None h =
+          let z : e ≡ UnknownSuite = cc in
+          rw (g, z) (writes_fails (writing_header_auth_tag suite iv tag) out (Err (because 6 0)) (sym (ap checked (first_stop 6 (known suite) _ (unknown suite x x_is h)))) (because 6 0) refl)
+      by (Some k) h = cc
 
-  module _ (k : Suite) (got : x ≡ Known k) where
+  module _ (k : Suite) (its : y ≡ Ok k) where
+    got : x ≡ Some k
+    got = by x refl
+      where
+        by : (o : Option Suite) → x ≡ o → x ≡ Some k
+        by None h = cc
+        by (Some j) h = cc
+
     pub auth_checked : (c : Checked) → c ≡ checked (first (sealed_checks (length iv) (length tag))) → c ≡ checked (first (writing_header_auth_tag suite iv tag).checks)
     unfolding writing_header_auth_tag auth_checks
     auth_checked c is = is ∙ sym (ap checked (first_pass 6 (known suite) _ (in_table suite x x_is k got)))
@@ -88,7 +100,7 @@ module _ (suite : ℕ) (iv tag : List ℕ) (x : SuiteAnswer) (x_is : x ≡ suite
     pub auth_stored : (out after : List ℕ) → after ≡ stored out 0 (auth_image k.version iv tag) → after ≡ stored out 0 (writing_header_auth_tag suite iv tag).image
     auth_stored out after q = q ∙ ap (stored out 0) image_as
 
-    pub auth_length : (c : Checked) → c ≡ checked (first (sealed_checks (length iv) (length tag))) → c ≡ Passes → (n : ℕ) → n ≡ by k.version 28 16
+    pub auth_length : (c : Checked) → c ≡ checked (first (sealed_checks (length iv) (length tag))) → c ≡ Ok tt → (n : ℕ) → n ≡ by k.version 28 16
         → n ≡ length (writing_header_auth_tag suite iv tag).image
     unfolding auth_image
     auth_length c is e n q = let (i, t) = lengths iv tag c is e in q ∙ long (eqb k.version 1) iv tag i t ∙ ap length image_as

@@ -9,9 +9,8 @@ ghost use Rattle.checks.specs.Answers.{Writes};
 ghost use Rattle.auth_write.specs.Ready.{auth_image, AuthReady};
 
 use checks::sealed::check_sealed;
-use checks::{Checked, WriteAnswer, refuses};
-use suites::{Suite, SuiteAnswer};
-use wire::refusals::{OUTPUT_TOO_SHORT, UNKNOWN_SUITE};
+use suites::Suite;
+use wire::refusals::{Reason, Refusal};
 use wire::writing::write;
 
 // How many bytes the record takes: version 2 has no IV.
@@ -37,21 +36,20 @@ fn put_auth(version: u8, iv: &[u8], tag: &[u8], out: &mut [u8])
 }
 
 // Write an authentication record: 6; 19; 30; 28. In version 2 the contents of the IV are ignored.
-pub fn write_header_auth_tag(suite: u32, iv: &[u8], tag: &[u8], out: &mut [u8]) -> WriteAnswer
+pub fn write_header_auth_tag(
+    suite: u32,
+    iv: &[u8],
+    tag: &[u8],
+    out: &mut [u8],
+) -> Result<usize, Refusal>
     ensures { Writes (writing_header_auth_tag suite iv.now tag.now) out.old out.new result }
 {
-    let s = Suite::from_number(suite);
-    let SuiteAnswer::Known(known) = s else {
-        return refuses(UNKNOWN_SUITE);
-    };
-    let c = check_sealed(iv.len(), tag.len());
-    if let Checked::Fails(r) = c {
-        return WriteAnswer::Refused(r);
-    }
-    let size = auth_size(known.version);
+    let suite = Suite::from_number(suite).ok_or(Reason::UnknownSuite)?;
+    check_sealed(iv.len(), tag.len())?;
+    let size = auth_size(suite.version);
     if out.len() < size {
-        return refuses(OUTPUT_TOO_SHORT);
+        return Err(Reason::OutputTooShort.into());
     }
-    put_auth(known.version, iv, tag, out);
-    WriteAnswer::Written(size)
+    put_auth(suite.version, iv, tag, out);
+    Ok(size)
 }

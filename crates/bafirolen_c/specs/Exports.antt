@@ -1,9 +1,11 @@
 -- What a call answers and leaves, of what the definitions answer. Assumes nothing.
-use Rattle.std.specs.Prelude.{ℕ, ◌≡◌, List, cond, leb, length}
+use Rattle.std.specs.Prelude.{ℕ, ◌≡◌, List, cond, leb, length, Result, Ok, Err}
 use Rattle.format.specs.Read.{Answer, accepted, refused}
 use Rattle.format.specs.Serialize.{Part}
 use Rattle.format.specs.Fields.{HeaderBody as BodyRead}
 use Rattle.format.specs.Lent.{pair_table_after, key_table_after, filled, Writing, written, output_after}
+use Rattle.wire.specs.Codes.{because}
+use Rattle.wire.specs.declared.refusals.Refusal.{Refusal}
 use Rattle.crossing.specs.declared.BafirolenBody.{BafirolenBody}
 use Rattle.crossing.specs.declared.BafirolenWritten.{BafirolenWritten}
 use Rattle.crossing.specs.Records.{body_record, wrote, written_record}
@@ -31,6 +33,15 @@ copied_record (refused k p) out = wrote k p 0
 abbrev pub copied_output : Answer Part → List ℕ → List ℕ
 copied_output (accepted v t) out = cond (leb (length v.bytes) (length out)) (filled v.bytes out) out
 copied_output (refused k p) out = out
+
+-- and as the code has it
+abbrev pub copied_of : Answer Part → List ℕ → Result ℕ Refusal
+copied_of (accepted v t) out = cond (leb (length v.bytes) (length out)) (Ok (length v.bytes)) (Err (because 28 0))
+copied_of (refused k p) out = Err (because k p)
+
+pub record CopiesValue (o : Answer Part) (before after : List ℕ) (r : Result ℕ Refusal) : Type 0 where
+  pub answer : r ≡ copied_of o before
+  pub output : after ≡ copied_output o before
 
 pub record Copies (o : Answer Part) (before after : List ℕ) (r : BafirolenWritten) : Type 0 where
   pub answer : r ≡ copied_record o before

@@ -7,7 +7,6 @@ ghost use Rattle.checks.specs.Answers.{whole};
 ghost use Rattle.crossing.specs.Records.{image_record};
 
 use crossing::BafirolenWritten;
-use crossing::written::written_record;
 
 // Two numbers a required key in the table, places of the text. On a refusal the output is as it was.
 #[unsafe(no_mangle)]
@@ -20,5 +19,5 @@ pub extern "C" fn bafirolen_write_only_authenticated(
 ) -> BafirolenWritten
     ensures { Reads image_record whole (operation (write_only_authenticated text.now required.now (length out.old)) m.now start) out.old out.new result }
 {
-    written_record(only_authenticated::write_only_authenticated(m, start, text, required, out))
+    only_authenticated::write_only_authenticated(m, start, text, required, out).into()
 }

@@ -1,4 +1,5 @@
 // Every operation for a host program in C or Rust. `crossing` has what crosses the boundary: requests in numbers, answers as records.
+// C has no generic function and no `Option`: an export for each operation, and a number beside the flag that says whether it counts.
 #![tactic(auto)]
 
 mod auth_tag;

@@ -6,11 +6,13 @@ ghost use Rattle.listing_text.specs.Listing.{as_listed, listing};
 ghost use Rattle.listing_text.specs.Answers.{writing_text};
 ghost use Rattle.bafirolen_c.specs.Exports.{answer_number, answer_position, Writes};
 
-use body_reader::HeaderBodyAnswer;
+use body_reader::HeaderBody;
 use crossing::BafirolenWritten;
-use crossing::written::written_record;
+use wire::SuccessfulRead;
+use wire::refusals::Refusal;
 
-fn answer_at(m: &[u8], start: u64) -> HeaderBodyAnswer
+// The tables are arrays, since the project has no heap.
+fn answer_at(m: &[u8], start: u64) -> Result<SuccessfulRead<HeaderBody>, Refusal>
     ensures { result ≡ body_of (as_listed m.now start) }
 {
     let mut pairs = [0u32; 4096];
@@ -23,10 +25,9 @@ fn answer_at(m: &[u8], start: u64) -> HeaderBodyAnswer
 pub extern "C" fn bafirolen_header_number(m: &[u8], start: u64) -> u32
     ensures { result ≡ answer_number (as_listed m.now start) }
 {
-    let a = answer_at(m, start);
-    match a {
-        HeaderBodyAnswer::Accepted { body: _, tail: _ } => 0,
-        HeaderBodyAnswer::Refused(q) => q.number as u32,
+    match answer_at(m, start) {
+        Ok(_) => 0,
+        Err(q) => u32::from(q.number),
     }
 }
 
@@ -35,10 +36,9 @@ pub extern "C" fn bafirolen_header_number(m: &[u8], start: u64) -> u32
 pub extern "C" fn bafirolen_header_position(m: &[u8], start: u64) -> u64
     ensures { result ≡ answer_position (as_listed m.now start) }
 {
-    let a = answer_at(m, start);
-    match a {
-        HeaderBodyAnswer::Accepted { body: _, tail } => tail,
-        HeaderBodyAnswer::Refused(q) => q.position,
+    match answer_at(m, start) {
+        Ok(body) => body.tail,
+        Err(q) => q.position,
     }
 }
 
@@ -47,5 +47,5 @@ pub extern "C" fn bafirolen_header_position(m: &[u8], start: u64) -> u64
 pub extern "C" fn bafirolen_write_listing(m: &[u8], out: &mut [u8]) -> BafirolenWritten
     ensures { Writes (writing_text (listing m.now)) out.old out.new result }
 {
-    written_record(listing_text::write_listing(m, out))
+    listing_text::write_listing(m, out).into()
 }

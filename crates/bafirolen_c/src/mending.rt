@@ -6,7 +6,6 @@ ghost use Rattle.drafts.specs.Codes.{Mends};
 ghost use Rattle.crossing.specs.Records.{image_record};
 
 use crossing::BafirolenWritten;
-use crossing::written::written_record;
 
 // The length is that of the draft without the keys of that provider ID.
 #[unsafe(no_mangle)]
@@ -16,7 +15,7 @@ pub extern "C" fn bafirolen_drop_encrypted_data_keys(
 ) -> BafirolenWritten
     ensures { Mends image_record (operation (drop_encrypted_data_keys providerId.now) draft.old 0) draft.old draft.new result }
 {
-    written_record(drafts::drop_encrypted_data_keys(draft, providerId))
+    drafts::drop_encrypted_data_keys(draft, providerId).into()
 }
 
 // The length is that of the draft with the key behind the others.
@@ -29,5 +28,5 @@ pub extern "C" fn bafirolen_add_encrypted_data_key(
 ) -> BafirolenWritten
     ensures { Mends image_record (operation (add_encrypted_data_key (record { keyProviderId = providerId.now; keyProviderInfo = providerInfo.now; ciphertext = ciphertext.now }) (length draft.old)) draft.old 0) draft.old draft.new result }
 {
-    written_record(drafts::add_encrypted_data_key(draft, providerId, providerInfo, ciphertext))
+    drafts::add_encrypted_data_key(draft, providerId, providerInfo, ciphertext).into()
 }

@@ -1,4 +1,5 @@
 // A body under a policy: read, written, and what it takes before it is written. Number 0 names none, and then each answers as its counterpart.
+// C has no `Option`: `hasMax` says whether there is a maximum.
 ghost use Rattle.std.specs.Prelude.{◌≡◌, length};
 ghost use Rattle.format.specs.Read.{operation};
 ghost use Rattle.format.specs.Body.{read_header_body_under};
@@ -10,8 +11,6 @@ ghost use Rattle.crossing.specs.Records.{written_record};
 ghost use Rattle.bafirolen_c.specs.Exports.{ReadsBody, Writes};
 
 use crossing::asked::{policy_asked, request_asked};
-use crossing::body::body_record;
-use crossing::written::written_record;
 use crossing::{BafirolenBody, BafirolenWritten};
 use fields::BodyNumbers;
 
@@ -30,7 +29,7 @@ pub extern "C" fn bafirolen_read_header_body_under_policy(
     ensures { ReadsBody (operation (read_header_body_under (policy_of (policy_asked policy)) (which_of (which_asked which)) (mode_of (mode_asked mode)) (max_of (max_asked hasMax max)) (length pairs.old) (length keys.old)) m.now start) pairs.old pairs.new keys.old keys.new result }
 {
     let request = request_asked(which, mode, hasMax, max, policy);
-    body_record(body_reader::read_header_body(m, start, request, pairs, keys))
+    body_reader::read_header_body(m, start, request, pairs, keys).into()
 }
 
 #[unsafe(no_mangle)]
@@ -46,7 +45,7 @@ pub extern "C" fn bafirolen_write_header_body_under_policy(
 ) -> BafirolenWritten
     ensures { Writes (writing_header_body_under (policy_of (policy_asked policy)) (body_to_write numbers messageId.now suiteData.now text.now pairs.now keys.now)) out.old out.new result }
 {
-    written_record(body_write::write_header_body_under(
+    body_write::write_header_body_under(
         numbers,
         policy_asked(policy),
         messageId,
@@ -55,7 +54,8 @@ pub extern "C" fn bafirolen_write_header_body_under_policy(
         pairs,
         keys,
         out,
-    ))
+    )
+    .into()
 }
 
 // What bafirolen_write_header_body_under_policy will answer, but for 28.
@@ -71,7 +71,7 @@ pub extern "C" fn bafirolen_header_body_len_under_policy(
 ) -> BafirolenWritten
     ensures { result ≡ written_record (size_of (writing_header_body_under (policy_of (policy_asked policy)) (body_to_write numbers messageId.now suiteData.now text.now pairs.now keys.now))) }
 {
-    written_record(body_write::header_body_len_under(
+    body_write::header_body_len_under(
         numbers,
         policy_asked(policy),
         messageId,
@@ -79,5 +79,6 @@ pub extern "C" fn bafirolen_header_body_len_under_policy(
         text,
         pairs,
         keys,
-    ))
+    )
+    .into()
 }

@@ -7,7 +7,6 @@ ghost use Rattle.checks.specs.Answers.{whole};
 ghost use Rattle.crossing.specs.Records.{image_record};
 
 use crossing::BafirolenWritten;
-use crossing::written::written_record;
 
 #[unsafe(no_mangle)]
 pub extern "C" fn bafirolen_reissue_header_body(
@@ -20,7 +19,7 @@ pub extern "C" fn bafirolen_reissue_header_body(
 ) -> BafirolenWritten
     ensures { Reads image_record whole (operation (reissue_header_body (record { suite = suite; messageId = messageId.now; suiteData = suiteData.now }) (length out.old)) m.now start) out.old out.new result }
 {
-    written_record(reissuing::reissue_header_body(m, start, suite, messageId, suiteData, out))
+    reissuing::reissue_header_body(m, start, suite, messageId, suiteData, out).into()
 }
 
 // What bafirolen_reissue_header_body will answer, but for 28.
@@ -34,5 +33,5 @@ pub extern "C" fn bafirolen_reissued_header_body_len(
 ) -> BafirolenWritten
     ensures { result ≡ image_record (operation (reissued_header_body (record { suite = suite; messageId = messageId.now; suiteData = suiteData.now })) m.now start) }
 {
-    written_record(reissuing::reissued_header_body_len(m, start, suite, messageId, suiteData))
+    reissuing::reissued_header_body_len(m, start, suite, messageId, suiteData).into()
 }

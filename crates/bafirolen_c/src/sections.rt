@@ -1,4 +1,4 @@
-// The sections on their own, and the frames.
+// The sections on their own, and the frames. C has no `Option`: `hasMax` says whether there is a maximum.
 ghost use Rattle.std.specs.Prelude.{length};
 ghost use Rattle.format.specs.Read.{operation};
 ghost use Rattle.format.specs.Context.{read_aad_section_into};
@@ -12,7 +12,6 @@ ghost use Rattle.crossing.specs.Records.{section_record};
 
 use crossing::BafirolenSection;
 use crossing::asked::request_asked;
-use crossing::sections::{context_record, frames_record, keys_record};
 
 // Mode 0: tolerant; any other: strict. The places of the pairs go into the table, four numbers a pair; on a refusal it keeps.
 #[unsafe(no_mangle)]
@@ -24,7 +23,7 @@ pub extern "C" fn bafirolen_read_aad_section(
 ) -> BafirolenSection
     ensures { Reads section_record pair_numbers (operation (read_aad_section_into (mode_of (mode_asked mode)) (length table.old)) m.now start) table.old table.new result }
 {
-    context_record(context::read_aad_section(m, start, request_asked(0, mode, 0, 0, 0), table))
+    context::read_aad_section(m, start, request_asked(0, mode, 0, 0, 0), table).into()
 }
 
 // hasMax 0: no maximum; any other: at most `max` keys. The places of the keys go into the table, six numbers a key; on a refusal
@@ -39,12 +38,12 @@ pub extern "C" fn bafirolen_read_encrypted_data_keys_section(
 ) -> BafirolenSection
     ensures { Reads section_record key_numbers (operation (read_encrypted_data_keys_section_into (max_of (max_asked hasMax max)) (length table.old)) m.now start) table.old table.new result }
 {
-    keys_record(keys::read_encrypted_data_keys_section(
+    keys::read_encrypted_data_keys_section(
         m,
         start,
         request_asked(0, 0, hasMax, max, 0),
         table,
-    ))
+    ).into()
 }
 
 // The places of the frames go into the table, six numbers a frame; on a refusal it keeps.
@@ -57,5 +56,5 @@ pub extern "C" fn bafirolen_read_frames(
 ) -> BafirolenSection
     ensures { Reads section_record frame_numbers (operation (read_frames_into frameLength (length table.old)) m.now start) table.old table.new result }
 {
-    frames_record(frames::read_frames(m, start, frameLength, table))
+    frames::read_frames(m, start, frameLength, table).into()
 }

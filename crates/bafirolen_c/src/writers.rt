@@ -1,4 +1,5 @@
-// The five writers, and what a body or frames take before they are written. On a refusal the output is as it was.
+// The five writers, and what a body or frames take before they are written. On a refusal the output is as it was. Each has an export of its
+// own, since C has one symbol for each operation.
 ghost use Rattle.std.specs.Prelude.{◌≡◌};
 ghost use Rattle.format.specs.Lent.{size_of, writing_aad_section, writing_encrypted_data_keys_section, writing_header_auth_tag, writing_header_body, writing_frames};
 ghost use Rattle.body_write.specs.Lent.{body_to_write};
@@ -6,7 +7,6 @@ ghost use Rattle.crossing.specs.Records.{written_record};
 ghost use Rattle.bafirolen_c.specs.Exports.{Writes};
 
 use crossing::BafirolenWritten;
-use crossing::written::written_record;
 use fields::BodyNumbers;
 
 // Four numbers a pair in the table, places of the text.
@@ -18,7 +18,7 @@ pub extern "C" fn bafirolen_write_aad_section(
 ) -> BafirolenWritten
     ensures { Writes (writing_aad_section text.now pairs.now) out.old out.new result }
 {
-    written_record(section_write::write_aad_section(text, pairs, out))
+    section_write::write_aad_section(text, pairs, out).into()
 }
 
 // Six numbers a key in the table, places of the text.
@@ -30,7 +30,7 @@ pub extern "C" fn bafirolen_write_encrypted_data_keys_section(
 ) -> BafirolenWritten
     ensures { Writes (writing_encrypted_data_keys_section text.now keys.now) out.old out.new result }
 {
-    written_record(section_write::write_encrypted_data_keys_section(text, keys, out))
+    section_write::write_encrypted_data_keys_section(text, keys, out).into()
 }
 
 #[unsafe(no_mangle)]
@@ -42,7 +42,7 @@ pub extern "C" fn bafirolen_write_header_auth_tag(
 ) -> BafirolenWritten
     ensures { Writes (writing_header_auth_tag suite iv.now tag.now) out.old out.new result }
 {
-    written_record(auth_write::write_header_auth_tag(suite, iv, tag, out))
+    auth_write::write_header_auth_tag(suite, iv, tag, out).into()
 }
 
 #[unsafe(no_mangle)]
@@ -57,9 +57,7 @@ pub extern "C" fn bafirolen_write_header_body(
 ) -> BafirolenWritten
     ensures { Writes (writing_header_body (body_to_write numbers messageId.now suiteData.now text.now pairs.now keys.now)) out.old out.new result }
 {
-    written_record(body_write::write_header_body(
-        numbers, messageId, suiteData, text, pairs, keys, out,
-    ))
+    body_write::write_header_body(numbers, messageId, suiteData, text, pairs, keys, out).into()
 }
 
 // What bafirolen_write_header_body will answer, but for 28.
@@ -74,7 +72,7 @@ pub extern "C" fn bafirolen_header_body_len(
 ) -> BafirolenWritten
     ensures { result ≡ written_record (size_of (writing_header_body (body_to_write numbers messageId.now suiteData.now text.now pairs.now keys.now))) }
 {
-    written_record(body_write::header_body_len(numbers, messageId, suiteData, text, pairs, keys))
+    body_write::header_body_len(numbers, messageId, suiteData, text, pairs, keys).into()
 }
 
 // Six numbers a frame in the table, places of the text. The last entry becomes the final frame.
@@ -87,7 +85,7 @@ pub extern "C" fn bafirolen_write_frames(
 ) -> BafirolenWritten
     ensures { Writes (writing_frames frameLength text.now frames.now) out.old out.new result }
 {
-    written_record(frames_write::write_frames(frameLength, text, frames, out))
+    frames_write::write_frames(frameLength, text, frames, out).into()
 }
 
 // What bafirolen_write_frames will answer, but for 28.
@@ -99,5 +97,5 @@ pub extern "C" fn bafirolen_frames_len(
 ) -> BafirolenWritten
     ensures { result ≡ written_record (size_of (writing_frames frameLength text.now frames.now)) }
 {
-    written_record(frames_write::frames_len(frameLength, text, frames))
+    frames_write::frames_len(frameLength, text, frames).into()
 }

@@ -1,4 +1,3 @@
-pub mod Frames
 pub mod Stages
 pub mod MeasureLaws
 pub mod Parts

@@ -1,16 +1,16 @@
 -- The code's answer, of what a body reader answers, and the contract of reading. Assumes nothing.
-use Rattle.std.specs.Prelude.{◌≡◌, List, ℕ, length}
-use Rattle.format.specs.Read.{Answer, accepted, refused}
+use Rattle.std.specs.Prelude.{◌≡◌, List, ℕ, length, Result}
+use Rattle.format.specs.Read.{Answer}
 use Rattle.format.specs.Fields.{form_number}
 use Rattle.format.specs.Fields.{HeaderBody as BodyRead}
 use Rattle.format.specs.Lent.{pair_table_after, key_table_after}
-use Rattle.wire.specs.Codes.{because}
+use Rattle.wire.specs.Codes.{read_of}
+use Rattle.wire.specs.declared.refusals.Refusal.{Refusal}
+use Rattle.wire.specs.declared.SuccessfulRead.{SuccessfulRead}
 use Rattle.fields.specs.declared.BodyNumbers.{BodyNumbers}
 use Rattle.ends.specs.declared.Opening.{Opening}
 use Rattle.ends.specs.declared.Closing.{Closing}
 use Rattle.body_reader.specs.declared.HeaderBody.{HeaderBody}
-use Rattle.body_reader.specs.declared.HeaderBodyAnswer.{HeaderBodyAnswer}
-use Rattle.body_reader.specs.declared.HeaderBodyAnswer.TheVariants as body
 
 -- a body's numbers and its mark, the places of its ID and suite data, and how many pairs and keys it has
 abbrev pub numbers_code : BodyRead → BodyNumbers
@@ -37,12 +37,11 @@ body_code b =
       suiteDataLen = length b.suiteData.bytes;
     }
 
-abbrev pub body_of : Answer BodyRead → HeaderBodyAnswer
-body_of (accepted b t) = body.Accepted (body_code b) t
-body_of (refused k p) = body.Refused (because k p)
+abbrev pub body_of : Answer BodyRead → Result (SuccessfulRead HeaderBody) Refusal
+body_of = read_of body_code
 
 -- the contract of a body reader: its answer is the definition's, and so are both tables afterwards
-pub record ReadsBody (o : Answer BodyRead) (pairs pairs' keys keys' : List ℕ) (r : HeaderBodyAnswer) : Type 0 where
+pub record ReadsBody (o : Answer BodyRead) (pairs pairs' keys keys' : List ℕ) (r : Result (SuccessfulRead HeaderBody) Refusal) : Type 0 where
   pub answer : r ≡ body_of o
   pub pairTable : pairs' ≡ pair_table_after o pairs
   pub keyTable : keys' ≡ key_table_after o keys

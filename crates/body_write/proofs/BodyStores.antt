@@ -8,102 +8,119 @@ use lib.Dec.{eqb}
 use lib.ListN.{length, take, drop, length-append}
 use borrow.Rule.Slice.PartMut.{put_mid}
 use Rattle.format.specs.Shared.{by}
-use Rattle.format.specs.Fields.{Form as Mark}
+use Rattle.format.specs.Policies.{Policy}
 use Rattle.format.specs.Body.{image}
 use Rattle.format.specs.Checks.{first}
 use Rattle.format.specs.Context.{section_in}
-use Rattle.format.specs.Lent.{pairs_in, fields_to_write, writing_encrypted_data_keys_section, writing_header_body_under, writing_header_body}
+use Rattle.format.specs.Lent.{pairs_in, fields_to_write, writing_encrypted_data_keys_section, writing_header_body_under}
 use Rattle.wire.specs.Stored.{stored}
 use Rattle.wire.proofs.StoreLaws.{stored_tail}
 use Rattle.checks.proofs.Writers.{chain, still_long}
 use Rattle.section_write.specs.Sizes.{aad_section_size, keys_section_size}
 use Rattle.section_write.proofs.Images.{aad_long, keys_long}
 use Rattle.ends_write.specs.Ends.{write_opening, write_closing}
-use Rattle.body_write.specs.Lent.{body_to_write}
-use Rattle.body_write.specs.Ready.{body_size, SectionsReady, BodyReady}
-use Rattle.fields.specs.Codes.{form_of, form_named}
-use Rattle.fields.specs.declared.BodyNumbers.{BodyNumbers}
-use Rattle.fields.specs.declared.Form.{Form}
+use Rattle.ends_write.specs.declared.opening.Opening.{Opening}
+use Rattle.ends_write.specs.declared.closing.Closing.{Closing}
 use Rattle.ends_write.proofs.Ends.{opening_long, closing_long, ends_fit}
+use Rattle.body_write.specs.Lent.{body_to_write}
+use Rattle.body_write.specs.Ready.{mark_of, opening_of, closing_of, writing, image_of, body_size, SectionsReady, BodyReady}
+use Rattle.body_write.specs.declared.body.Body.{Body}
 use Rattle.body_write.proofs.BodyChecks.{version_small, type_small, suite_small, content_small, iv_small, body_pairs_passed, body_pairs_few, body_keys_passed, id_long, data_long}
 
-module _ (n : BodyNumbers) (messageId suiteData text pairs keys : List ℕ) where
+-- the ends that the code stores
+abbrev opening_bytes : Opening → List ℕ
+opening_bytes o = write_opening (eqb o.version 1) o.version o.messageType o.suite o.messageId.now
+
+abbrev closing_bytes : Closing → List ℕ
+closing_bytes z = write_closing (eqb z.version 1) z.contentType z.headerIvLength z.frameLength z.suiteData.now
+
+module _ (body : Body) where
   abbrev opening : List ℕ
-  opening = write_opening (eqb n.version 1) n.version n.messageType n.suite messageId
+  opening = opening_bytes (opening_of body)
 
   abbrev closing : List ℕ
-  closing = write_closing (eqb n.version 1) n.contentType n.headerIvLength n.frameLength suiteData
-
-  abbrev mark : Mark
-  mark = form_of (form_named n.form)
+  closing = closing_bytes (closing_of body)
 
   abbrev sections : List ℕ
-  sections = section_in mark (pairs_in text pairs) ++ (writing_encrypted_data_keys_section text keys).image
+  sections = section_in (mark_of body) (pairs_in body.text.now body.pairs.now) ++ (writing_encrypted_data_keys_section body.text.now body.keys.now).image
 
-  image_is : (writing_header_body (body_to_write n messageId suiteData text pairs keys)).image ≡ opening ++ (sections ++ closing)
-  unfolding body_to_write writing_header_body_under fields_to_write image writing_encrypted_data_keys_section write_opening write_closing
-  image_is = ap (λ (l : List ℕ). opening ++ l) (sym (append_assoc (section_in mark (pairs_in text pairs)) (writing_encrypted_data_keys_section text keys).image closing))
+  image_is : image_of body ≡ opening ++ (sections ++ closing)
+  unfolding body_to_write fields_to_write image writing_encrypted_data_keys_section write_opening write_closing
+  image_is = ap (λ (l : List ℕ). opening ++ l) (sym (append_assoc (section_in (mark_of body) (pairs_in body.text.now body.pairs.now)) (writing_encrypted_data_keys_section body.text.now body.keys.now).image closing))
 
-  module _ (size room : ℕ) (r : BodyReady n size messageId suiteData text pairs keys room) where
-    opens : length opening ≡ by n.version 20 35
-    opens = opening_long (eqb n.version 1) n.version n.messageType n.suite messageId r.idLong
+  module _ (size room : ℕ) (r : BodyReady body size room) where
+    opens : length opening ≡ by body.numbers.version 20 35
+    opens = opening_long (eqb body.numbers.version 1) body.numbers.version body.numbers.messageType body.numbers.suite body.messageId.now r.idLong
 
-    closes : length closing ≡ by n.version 10 37
-    closes = closing_long (eqb n.version 1) n.contentType n.headerIvLength n.frameLength suiteData r.dataLong
+    closes : length closing ≡ by body.numbers.version 10 37
+    closes = closing_long (eqb body.numbers.version 1) body.numbers.contentType body.numbers.headerIvLength body.numbers.frameLength body.suiteData.now r.dataLong
 
-    holds : length sections ≡ aad_section_size mark pairs + keys_section_size keys
+    holds : length sections ≡ aad_section_size (mark_of body) body.pairs.now + keys_section_size body.keys.now
     holds =
-        let a = aad_long text pairs mark r.pairs in
-        let b = keys_long text keys r.keys in
+        let a = aad_long body.text.now body.pairs.now (mark_of body) r.pairs in
+        let b = keys_long body.text.now body.keys.now r.keys in
         simp length-append (omega arith)
 
-    image_long : length (writing_header_body (body_to_write n messageId suiteData text pairs keys)).image ≡ body_size n.version mark pairs keys
+    image_long : length (image_of body) ≡ body_size body
     image_long = rw (image_is, length-append, length-append) (omega (arith, opens, closes, holds))
 
-  -- the sections go behind the opening, by the mark that the number names
-  pub sections_ready : (size : ℕ) (out : List ℕ) → BodyReady n size messageId suiteData text pairs keys (length out) → (o₁ : List ℕ)
-      → o₁ ≡ stored out 0 (write_opening (eqb n.version 1) n.version n.messageType n.suite messageId)
-      → (at : ℕ) → at ≡ by n.version 20 35 → (form : Form) → form ≡ form_named n.form → SectionsReady (form_of form) text pairs keys at (length o₁)
-  sections_ready size out r o₁ q₁ at ea form ef =
-      let w = r.whole in
-      let a = opens size (length out) r in
-      let l₁ = still_long out o₁ 0 opening q₁ (omega (arith, r.fits)) in
-      rw ef (record { pairs = r.pairs; few = r.few; keys = r.keys; fits = omega (arith, r.fits) })
+  module _ (size : ℕ) (out : List ℕ) (r : BodyReady body size (length out)) (o : Opening) (oIs : o ≡ opening_of body) (o₁ : List ℕ)
+      (is : o₁ ≡ stored out 0 (write_opening (eqb o.version 1) o.version o.messageType o.suite o.messageId.now)) (at : ℕ) (atIs : at ≡ by o.version 20 35) where
+    q₁ : o₁ ≡ stored out 0 opening
+    q₁ = rw oIs at is
 
-  pub body_stored : (size : ℕ) (out : List ℕ) → BodyReady n size messageId suiteData text pairs keys (length out) → (o₁ o₂ o₃ : List ℕ) (at c : ℕ) (form : Form)
-      → at ≡ by n.version 20 35 → form ≡ form_named n.form → c ≡ by n.version 10 37
-      → o₁ ≡ stored out 0 (write_opening (eqb n.version 1) n.version n.messageType n.suite messageId)
-      → o₂ ≡ stored o₁ at (section_in (form_of form) (pairs_in text pairs) ++ (writing_encrypted_data_keys_section text keys).image)
-      → o₃ ≡ stored (take (length o₂ - (size - c)) (drop (size - c) o₂)) 0 (write_closing (eqb n.version 1) n.contentType n.headerIvLength n.frameLength suiteData)
-      → put_mid (size - c) (length o₂ - (size - c)) o₂ o₃ ≡ stored out 0 (writing_header_body (body_to_write n messageId suiteData text pairs keys)).image
-  body_stored size out r o₁ o₂ o₃ at c form ea ef ec q₁ q₂ q₃ =
-      let w = r.whole in
-      let a = opens size (length out) r in
-      let b = holds size (length out) r in
-      let z = closes size (length out) r in
-      let s₂ : o₂ ≡ stored o₁ at sections = rw ef at q₂ in
-      let l₁ = still_long out o₁ 0 opening q₁ (omega (arith, r.fits)) in
-      let l₂ = still_long o₁ o₂ at sections s₂ (omega (arith, r.fits)) in
-      let last = stored_tail o₂ o₃ closing (size - c) (omega (arith, r.fits)) q₃ in
-      let two = chain o₁ o₂ _ at (size - c) sections closing s₂ (omega arith) last (omega (arith, r.fits)) in
-      chain out o₁ _ 0 at opening (sections ++ closing) q₁ (omega arith) two (omega (arith, r.fits)) ∙ rw image_is
+    at_is : at ≡ by body.numbers.version 20 35
+    at_is = rw oIs at atIs
 
-  -- where all checks pass
-  module _ (all_pass : first (writing_header_body (body_to_write n messageId suiteData text pairs keys)).checks ≡ none) where
-    ready : (s room : ℕ) → s ≡ body_size n.version mark pairs keys → s ≤ room → BodyReady n s messageId suiteData text pairs keys room
-    ready s room q h =
-        let i = id_long n messageId suiteData text pairs keys all_pass in
-        let d = data_long n messageId suiteData text pairs keys all_pass in
-        let f = ends_fit (eqb n.version 1) (length messageId) (length suiteData) i d in
+    -- the sections go behind the opening
+    pub sections_ready : SectionsReady body at (length o₁)
+    sections_ready =
+        let w = r.whole in
+        let a = opens size (length out) r in
+        let l₁ = still_long out o₁ 0 opening q₁ (omega (arith, r.fits)) in
+        record { pairs = r.pairs; few = r.few; keys = r.keys; fits = omega (arith, at_is, r.fits) }
+
+    pub body_stored : (z : Closing) → z ≡ closing_of body → (o₂ o₃ : List ℕ) (c : ℕ) → c ≡ by z.version 10 37
+        → o₂ ≡ stored o₁ at (section_in (mark_of body) (pairs_in body.text.now body.pairs.now) ++ (writing_encrypted_data_keys_section body.text.now body.keys.now).image)
+        → o₃ ≡ stored (take (length o₂ - (size - c)) (drop (size - c) o₂)) 0 (write_closing (eqb z.version 1) z.contentType z.headerIvLength z.frameLength z.suiteData.now)
+        → put_mid (size - c) (length o₂ - (size - c)) o₂ o₃ ≡ stored out 0 (image_of body)
+    body_stored z zIs o₂ o₃ c cIs q₂ q₃ =
+        let w = r.whole in
+        let a = opens size (length out) r in
+        let b = holds size (length out) r in
+        let d = closes size (length out) r in
+        let c_is : c ≡ by body.numbers.version 10 37 = rw zIs at cIs in
+        let l₁ = still_long out o₁ 0 opening q₁ (omega (arith, r.fits)) in
+        let l₂ = still_long o₁ o₂ at sections q₂ (omega (arith, at_is, r.fits)) in
+        let last = stored_tail o₂ o₃ closing (size - c) (omega (arith, c_is, r.fits)) (rw zIs at q₃) in
+        let two = chain o₁ o₂ _ at (size - c) sections closing q₂ (omega (arith, at_is, c_is)) last (omega (arith, at_is, r.fits)) in
+        chain out o₁ _ 0 at opening (sections ++ closing) q₁ (omega (arith, at_is)) two (omega (arith, r.fits)) ∙ rw image_is
+
+-- where all checks pass
+module _ (policy : Policy) (body : Body) where
+  its_image : (writing policy body).image ≡ image_of body
+  unfolding writing_header_body_under body_to_write
+  its_image = refl
+
+  -- what is stored is what the writing asks for
+  pub image_stored : (out after : List ℕ) → after ≡ stored out 0 (image_of body) → after ≡ stored out 0 (writing policy body).image
+  image_stored out after e = e ∙ ap (stored out 0) (sym its_image)
+
+  module _ (all_pass : first (writing policy body).checks ≡ none) where
+    ready : (size room : ℕ) → size ≡ body_size body → size ≤ room → BodyReady body size room
+    ready size room q h =
+        let i = id_long policy body all_pass in
+        let d = data_long policy body all_pass in
+        let f = ends_fit (eqb body.numbers.version 1) (length body.messageId.now) (length body.suiteData.now) i d in
         record {
-          version = version_small n messageId suiteData text pairs keys all_pass;
-          messageType = type_small n messageId suiteData text pairs keys all_pass;
-          suite = suite_small n messageId suiteData text pairs keys all_pass;
-          contentType = content_small n messageId suiteData text pairs keys all_pass;
-          headerIvLength = iv_small n messageId suiteData text pairs keys all_pass;
-          pairs = body_pairs_passed n messageId suiteData text pairs keys all_pass;
-          few = body_pairs_few n messageId suiteData text pairs keys all_pass;
-          keys = body_keys_passed n messageId suiteData text pairs keys all_pass;
+          version = version_small policy body all_pass;
+          messageType = type_small policy body all_pass;
+          suite = suite_small policy body all_pass;
+          contentType = content_small policy body all_pass;
+          headerIvLength = iv_small policy body all_pass;
+          pairs = body_pairs_passed policy body all_pass;
+          few = body_pairs_few policy body all_pass;
+          keys = body_keys_passed policy body all_pass;
           idLong = i;
           dataLong = d;
           opening = f.0;
@@ -113,11 +130,10 @@ module _ (n : BodyNumbers) (messageId suiteData text pairs keys : List ℕ) wher
           fits = h;
         }
 
-    pub body_length : length (writing_header_body (body_to_write n messageId suiteData text pairs keys)).image ≡ body_size n.version mark pairs keys
+    pub body_length : length (writing policy body).image ≡ body_size body
     body_length =
-        let size = body_size n.version mark pairs keys in
-        image_long size size (ready size size refl (omega arith))
+        let size = body_size body in
+        ap length its_image ∙ image_long body size size (ready size size refl (omega arith))
 
-    pub body_ready : (size room : ℕ) → size ≡ length (writing_header_body (body_to_write n messageId suiteData text pairs keys)).image → size ≤ room
-        → BodyReady n size messageId suiteData text pairs keys room
+    pub body_ready : (size room : ℕ) → size ≡ length (writing policy body).image → size ≤ room → BodyReady body size room
     body_ready size room e h = ready size room (e ∙ body_length) h

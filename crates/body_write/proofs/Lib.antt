@@ -1,4 +1,3 @@
-pub mod PolicyLaws
 pub mod FormLaws
 pub mod BodyChecks
 pub mod SectionStores

@@ -1,37 +1,29 @@
 -- Laws of the size that is told, and what it gives the writer's stores. Assumes nothing.
 use Prim.Native.Nat.{ℕ, ◌≤◌}
 use mathlib.Core.Path.{◌≡◌, sym, ◌∙◌}
-use mathlib.Core.List.{List}
 use lib.ListN.{length}
+use Rattle.std.specs.Prelude.{Result, Ok}
+use Rattle.format.specs.Policies.{Policy}
 use Rattle.format.specs.Checks.{first}
-use Rattle.format.specs.Lent.{size_of, writing_header_body}
-use Rattle.checks.specs.Answers.{checked, write_answer_of}
-use Rattle.checks.specs.declared.Checked.{Checked}
-use Rattle.checks.specs.declared.Checked.TheVariants.{Passes}
-use Rattle.checks.specs.declared.WriteAnswer.{WriteAnswer}
-use Rattle.checks.specs.declared.WriteAnswer.TheVariants.{Written}
+use Rattle.format.specs.Lent.{size_of}
+use Rattle.wire.specs.declared.refusals.Refusal.{Refusal}
+use Rattle.checks.specs.Answers.{Checked, checked, write_answer_of}
 use Rattle.checks.proofs.Stages.{stage_none}
 use Rattle.checks.proofs.Writers.{told_none}
-use Rattle.fields.specs.Codes.{form_of, form_named}
-use Rattle.fields.specs.declared.BodyNumbers.{BodyNumbers}
-use Rattle.fields.specs.declared.Form.{Form}
-use Rattle.body_write.specs.Lent.{body_to_write}
-use Rattle.body_write.specs.Ready.{body_size, Small, BodyReady}
+use Rattle.body_write.specs.Ready.{writing, body_size, Small, BodyReady}
+use Rattle.body_write.specs.declared.body.Body.{Body}
 use Rattle.body_write.proofs.BodyChecks.{tables_small}
 use Rattle.body_write.proofs.BodyStores.{body_length, body_ready}
 
 -- what the size asks, and what it comes to
-module _ (n : BodyNumbers) (messageId suiteData text pairs keys : List ℕ) (c : Checked) (is : c ≡ checked (first (writing_header_body (body_to_write n messageId suiteData text pairs keys)).checks)) (e : c ≡ Passes) where
-  pub size_small : Small pairs keys
-  size_small = tables_small n messageId suiteData text pairs keys (stage_none _ c is e)
+module _ (policy : Policy) (body : Body) (c : Checked) (is : c ≡ checked (first (writing policy body).checks)) (e : c ≡ Ok tt) where
+  pub size_small : Small body
+  size_small = tables_small policy body (stage_none _ c is e)
 
-  pub size_long : (form : Form) → form ≡ form_named n.form → (s : ℕ) → s ≡ body_size n.version (form_of form) pairs keys
-      → s ≡ length (writing_header_body (body_to_write n messageId suiteData text pairs keys)).image
-  size_long form ef s q = q ∙ rw ef (sym (body_length n messageId suiteData text pairs keys (stage_none _ c is e)))
+  pub size_long : (s : ℕ) → s ≡ body_size body → s ≡ length (writing policy body).image
+  size_long s q = q ∙ sym (body_length policy body (stage_none _ c is e))
 
 -- what a length that was told gives the stores
-pub sized_ready : (n : BodyNumbers) (messageId suiteData text pairs keys : List ℕ) (s : WriteAnswer) → s ≡ write_answer_of (size_of (writing_header_body (body_to_write n messageId suiteData text pairs keys)))
-    → (size : ℕ) → s ≡ Written size → (room : ℕ) → size ≤ room → BodyReady n size messageId suiteData text pairs keys room
-sized_ready n messageId suiteData text pairs keys s is size e room h =
-    let (p, d) = told_none (writing_header_body (body_to_write n messageId suiteData text pairs keys)) s is size e in
-    body_ready n messageId suiteData text pairs keys p size room d h
+pub sized_ready : (policy : Policy) (body : Body) (s : Result ℕ Refusal) → s ≡ write_answer_of (size_of (writing policy body)) → (size : ℕ) → s ≡ Ok size → (room : ℕ) → size ≤ room
+    → BodyReady body size room
+sized_ready policy body s is size e room h = let (p, d) = told_none (writing policy body) s is size e in body_ready policy body p size room d h

@@ -8,55 +8,39 @@ use lib.Dec.{leb}
 use lib.ListN.{length, get_or}
 use borrow.Author.Tests.{leb-true, eqb-true}
 use Rattle.format.specs.Serialize.{images, sum, every, entry_length}
-use Rattle.format.specs.Utf8.{valid_utf8_seq}
 use Rattle.format.specs.Fields.{pair_parts, key_parts}
 use Rattle.format.specs.Checks.{first, has_uint16_len}
-use Rattle.format.specs.Lent.{parts_in, bytes_at, items, part_in, pair_in, key_in, pairs_in, keys_in, here, places, in_text, table_checks}
+use Rattle.format.specs.Lent.{parts_in, items, part_in, pair_in, key_in, pairs_in, keys_in, here, places, in_text, table_checks}
 use Rattle.format.proofs.Firsts.{both, holds}
 use Rattle.steps.proofs.Numbers.{length_part}
-use Rattle.checks.specs.Answers.{checked}
+use Rattle.checks.specs.Answers.{Checked, checked}
 use Rattle.checks.specs.Table.{short, numbers_checks, entry_size, entries_size, Within, Passed}
-use Rattle.checks.specs.declared.Checked.{Checked}
-use Rattle.checks.specs.declared.Checked.TheVariants.{Passes}
 use Rattle.checks.proofs.Items.{every_at}
 use Rattle.checks.proofs.Stages.{stage_none}
+use Rattle.std.specs.Prelude.{Ok}
 
 -- what the numbers of a part give
-module _ (text table : List ℕ) (at s l : ℕ) (es : s ≡ get_or table at 0) (el : l ≡ get_or table (at + 1) 0) where
-  pub part_is : bytes_at text s l ≡ part_in text table at
-  unfolding part_in
-  part_is = rw (es, el)
-
-  pub part_inside : Within text table at → s + l ≤ length text
-  part_inside w = omega (arith, w.bytes)
-
-  pub utf8_here : (t : Bool) → t ≡ valid_utf8_seq (bytes_at text s l) → t ≡ valid_utf8_seq (part_in text table at)
-  utf8_here t e = e ∙ ap valid_utf8_seq part_is
-
 pub part_length : (text table : List ℕ) (at : ℕ) → Within text table at → length (part_in text table at) ≡ get_or table (at + 1) 0
 unfolding part_in
 part_length text table at w = length_part text (get_or table at 0) (get_or table (at + 1) 0) w.bytes
 
 -- a part of a table whose places are inside the text
 module _ (text table : List ℕ) (p : every (in_text text table) (places table) ≡ true) where
-  within_here : (j at : ℕ) → at ≡ 2 * j → j < length table / 2 → Within text table at
+  pub part_here : (i at : ℕ) → i < length table / 2 → at ≡ 2 * i → Within text table at
   unfolding in_text
-  within_here j at e h =
-      let t : in_text text table (0 + 2 * j) ≡ true = every_at (in_text text table) (length table / 2) 0 p j h in
-      let z : 0 + 2 * j ≡ at = omega arith in
+  part_here i at h e =
+      let t : in_text text table (0 + 2 * i) ≡ true = every_at (in_text text table) (length table / 2) 0 p i h in
+      let z : 0 + 2 * i ≡ at = omega arith in
       record { numbers = omega arith; bytes = leb-true _ _ (rw z at t) }
 
-  pub part_here : (i at : ℕ) → i < length table / 2 → at ≡ 2 * i → Within text table at
-  part_here i at h e = within_here i at e h
+  pub pair_here : (i : ℕ) → i < length table / 4 → Within text table (4 * i)
+  pair_here i h = part_here (2 * i) (4 * i) (omega arith) (omega arith)
 
-  pub pair_here : (i at : ℕ) → i < length table / 4 → at ≡ 4 * i → Within text table at
-  pair_here i at h e = within_here (2 * i) at (omega arith) (omega arith)
+  pub value_here : (i : ℕ) → i < length table / 4 → Within text table (4 * i + 2)
+  value_here i h = part_here (2 * i + 1) (4 * i + 2) (omega arith) (omega arith)
 
-  pub value_here : (i at : ℕ) → i < length table / 4 → at ≡ 4 * i → Within text table (at + 2)
-  value_here i at h e = within_here (2 * i + 1) (at + 2) (omega arith) (omega arith)
-
-  pub key_here : (i at : ℕ) → i < length table / 6 → at ≡ 6 * i → Within text table at
-  key_here i at h e = within_here (3 * i) at (omega arith) (omega arith)
+  pub key_here : (i : ℕ) → i < length table / 6 → Within text table (6 * i)
+  key_here i h = part_here (3 * i) (6 * i) (omega arith) (omega arith)
 
 pub short_here : (table : List ℕ) → every (short table) (places table) ≡ true → (i at : ℕ) → i < length table / 2 → at ≡ 2 * i → get_or table (at + 1) 0 < 65536
 unfolding short
@@ -67,13 +51,13 @@ short_here table p i at h e =
     omega arith
 
 -- a table that passed
-pub passed : (k : ℕ) (text table : List ℕ) (a : Checked) → a ≡ checked (first (numbers_checks k text table)) → a ≡ Passes → Passed k text table
+pub passed : (k : ℕ) (text table : List ℕ) (a : Checked) → a ≡ checked (first (numbers_checks k text table)) → a ≡ Ok tt → Passed k text table
 unfolding numbers_checks table_checks
 passed k text table a is e =
     let h = holds (numbers_checks k text table) (stage_none (numbers_checks k text table) a is e) in
     record { whole = eqb-true _ _ h.0; inside = h.1.0; count = leb-true _ _ h.1.1.0; shorts = h.1.1.1.0 }
 
-pub passed_inside : (k : ℕ) (text table : List ℕ) (a : Checked) → a ≡ checked (first (numbers_checks k text table)) → a ≡ Passes → every (in_text text table) (places table) ≡ true
+pub passed_inside : (k : ℕ) (text table : List ℕ) (a : Checked) → a ≡ checked (first (numbers_checks k text table)) → a ≡ Ok tt → every (in_text text table) (places table) ≡ true
 passed_inside k text table a is e = (passed k text table a is e).inside
 
 -- the parts of the pairs and of the keys are all the parts

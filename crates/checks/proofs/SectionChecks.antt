@@ -18,14 +18,13 @@ use Rattle.format.specs.Lent.{parts_in, pair_in, key_in, pairs_in, keys_in, plac
 use Rattle.format.proofs.Firsts.{holds, first_pass, first_stop, first_cong}
 use Rattle.format.proofs.Tables.{items_length}
 use Rattle.wire.specs.Codes.{because}
-use Rattle.wire.specs.declared.Refusal.{Refusal}
-use Rattle.checks.specs.Answers.{checked}
+use Rattle.wire.specs.declared.refusals.Refusal.{Refusal}
+use Rattle.checks.specs.Answers.{Checked, checked}
 use Rattle.checks.specs.Table.{short, numbers_checks, entries_size, Passed}
-use Rattle.checks.specs.declared.Checked.{Checked}
-use Rattle.checks.specs.declared.Checked.TheVariants.{Passes, Fails}
 use Rattle.checks.proofs.Items.{sum_of_images}
 use Rattle.checks.proofs.Stages.{stage_passes, stage_fails, front, back, check_ne, pass_ne}
 use Rattle.checks.proofs.Parts.{passed, in_fours, in_sixes, parts_size, parts_short}
+use Rattle.std.specs.Prelude.{Ok, Err}
 
 -- 26 and 27 of the numbers are those of the items
 module _ (k : ℕ) (text table : List ℕ) (m : ℕ) (parts : List (List ℕ)) (em : m ≡ length table / k) (ep : length table % k ≡ 0 → parts ≡ parts_in text table) where
@@ -41,12 +40,12 @@ module _ (k : ℕ) (text table : List ℕ) (m : ℕ) (parts : List (List ℕ)) (
   numbers_are = first_cong (table_checks k text table) _ _ same_27
 
   numbers_passed : (rest : List Check) → first ((table_checks k text table ++ count_checks m parts) ++ rest) ≡ none → Passed k text table
-  numbers_passed rest e = passed k text table Passes (sym (ap checked (numbers_are ∙ front _ rest e))) refl
+  numbers_passed rest e = passed k text table (Ok tt) (sym (ap checked (numbers_are ∙ front _ rest e))) refl
 
-pub table_small : (text table : List ℕ) (a : Checked) → a ≡ checked (first (numbers_checks 4 text table)) → a ≡ Passes → length table < 4194304
+pub table_small : (text table : List ℕ) (a : Checked) → a ≡ checked (first (numbers_checks 4 text table)) → a ≡ Ok tt → length table < 4194304
 table_small text table a is e = let p = passed 4 text table a is e in omega (arith, p.whole, p.count)
 
-pub table_count : (text table : List ℕ) (a : Checked) → a ≡ checked (first (numbers_checks 4 text table)) → a ≡ Passes → length table / 4 ≤ 65535
+pub table_count : (text table : List ℕ) (a : Checked) → a ≡ checked (first (numbers_checks 4 text table)) → a ≡ Ok tt → length table / 4 ≤ 65535
 table_count text table a is e = (passed 4 text table a is e).count
 
 -- the entries of the pairs take what their parts' entries take
@@ -85,24 +84,24 @@ module _ (text table : List ℕ) (a : Checked) (is : a ≡ checked (first (numbe
   pair_table_is : a ≡ checked (first (pair_table text table))
   pair_table_is = is ∙ ap checked (numbers_are 4 text table _ _ (items_length (pair_in text table) 4 (length table / 4) 0) (in_fours text table))
 
-  pub pairs_table : (r : Refusal) → a ≡ Fails r → Fails r ≡ checked (first (writing_aad_section text table).checks)
+  pub pairs_table : (r : Refusal) → a ≡ Err r → ◌≡◌ {A = Checked} (Err r) (checked (first (writing_aad_section text table).checks))
   pairs_table r e = rw (pair_stages text table) (sym (stage_fails (pair_table text table) a pair_table_is _ r e))
 
-  module _ (e : a ≡ Passes) (b : Checked) (bIs : b ≡ checked (first (each pair_checks [] (pairs_in text table)))) where
-    pub pairs_each : (r : Refusal) → b ≡ Fails r → Fails r ≡ checked (first (writing_aad_section text table).checks)
+  module _ (e : a ≡ Ok tt) (b : Checked) (bIs : b ≡ checked (first (each pair_checks [] (pairs_in text table)))) where
+    pub pairs_each : (r : Refusal) → b ≡ Err r → ◌≡◌ {A = Checked} (Err r) (checked (first (writing_aad_section text table).checks))
     pairs_each r f = rw (pair_stages text table) (sym (stage_passes (pair_table text table) a pair_table_is _ e ∙ stage_fails (each_pair text table) b bIs _ r f))
 
-    module _ (f : b ≡ Passes) (n : ℕ) (nIs : n ≡ entries_size table) (r : Checked) where
+    module _ (f : b ≡ Ok tt) (n : ℕ) (nIs : n ≡ entries_size table) (r : Checked) where
       left : checked (first (writing_aad_section text table).checks) ≡ checked (first (all_pairs text table))
       left = rw (pair_stages text table) (stage_passes (pair_table text table) a pair_table_is _ e ∙ stage_passes (each_pair text table) b bIs _ f)
 
       size_is : linear_length (pairs_in text table) ≡ n
       size_is = pairs_size text table (passed 4 text table a is e) ∙ sym nIs
 
-      pub pairs_13 : 65534 ≤ n → r ≡ Fails (because 13 0) → r ≡ checked (first (writing_aad_section text table).checks)
+      pub pairs_13 : 65534 ≤ n → r ≡ Err (because 13 0) → r ≡ checked (first (writing_aad_section text table).checks)
       pairs_13 h q = q ∙ sym (left ∙ ap checked (first_stop 13 (ltb (linear_length (pairs_in text table)) 65534) [] (rw size_is (le-ltb _ _ h))))
 
-      pub pairs_pass : n < 65534 → r ≡ Passes → r ≡ checked (first (writing_aad_section text table).checks)
+      pub pairs_pass : n < 65534 → r ≡ Ok tt → r ≡ checked (first (writing_aad_section text table).checks)
       unfolding first
       pairs_pass h q = q ∙ sym (left ∙ ap checked (first_pass 13 (ltb (linear_length (pairs_in text table)) 65534) [] (rw size_is (lt-ltb _ _ h))))
 
@@ -111,17 +110,17 @@ module _ (text table : List ℕ) (a : Checked) (is : a ≡ checked (first (numbe
   key_table_is : a ≡ checked (first (key_table text table))
   key_table_is = is ∙ ap checked (numbers_are 6 text table _ _ (items_length (key_in text table) 6 (length table / 6) 0) (in_sixes text table))
 
-  pub keys_table : (r : Refusal) → a ≡ Fails r → Fails r ≡ checked (first (writing_encrypted_data_keys_section text table).checks)
+  pub keys_table : (r : Refusal) → a ≡ Err r → ◌≡◌ {A = Checked} (Err r) (checked (first (writing_encrypted_data_keys_section text table).checks))
   keys_table r e = rw (key_stages text table) (sym (stage_fails (key_table text table) a key_table_is _ r e))
 
-  module _ (e : a ≡ Passes) where
+  module _ (e : a ≡ Ok tt) where
     left_keys : checked (first (writing_encrypted_data_keys_section text table).checks) ≡ checked (first (check 38 (some_key text table) ∷ each key_checks [] (keys_in text table)))
     left_keys = rw (key_stages text table) (stage_passes (key_table text table) a key_table_is _ e)
 
     how_many : length (keys_in text table) ≡ length table / 6
     how_many = items_length (key_in text table) 6 (length table / 6) 0
 
-    pub keys_38 : length table < 6 → (r : Checked) → r ≡ Fails (because 38 0) → r ≡ checked (first (writing_encrypted_data_keys_section text table).checks)
+    pub keys_38 : length table < 6 → (r : Checked) → r ≡ Err (because 38 0) → r ≡ checked (first (writing_encrypted_data_keys_section text table).checks)
     keys_38 h r f = check_ne 38 _ 0 _ r (how_many ∙ omega arith) f ∙ sym left_keys
 
     pub keys_each : 6 ≤ length table → (b : Checked) → b ≡ checked (first (each key_checks [] (keys_in text table))) → b ≡ checked (first (writing_encrypted_data_keys_section text table).checks)

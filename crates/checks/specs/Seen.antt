@@ -4,11 +4,10 @@ use Rattle.format.specs.Context.{seen}
 use Rattle.format.specs.Checks.{first, each, pair_checks}
 use Rattle.format.specs.Lent.{items, part_in, pair_in, pairs_in}
 use Rattle.index.specs.Index.{Index}
-use Rattle.checks.specs.Answers.{checked}
+use Rattle.checks.specs.Answers.{Checked, checked}
 use Rattle.checks.specs.Each.{Each}
 use Rattle.checks.specs.Table.{Within}
-use Rattle.checks.specs.declared.Checked.{Checked}
-use Rattle.checks.specs.declared.Checked.TheVariants.{Passes, Fails}
+use Rattle.std.specs.Prelude.{Ok, Err}
 
 -- the key of the pair with a number
 unfoldable pub key_of : List ℕ → List ℕ → ℕ → List ℕ
@@ -26,29 +25,29 @@ abbrev pub IndexedWhere : Bool → List ℕ → List ℕ → ℕ → List ℕ �
 IndexedWhere true text table n s = Indexed text table n s
 IndexedWhere false text table n s = Unit {0}
 
--- r: whether the i-th pair, at `at`, has a key that no pair before it has; if so the index has it too
-pub record New (text table : List ℕ) (i at : ℕ) (s : List ℕ) (r : Bool) : Type 0 where
-  pub is : r ≡ not (seen (part_in text table at) (items (pair_in text table) 4 i 0))
+-- r: whether the i-th pair has a key that no pair before it has; if so the index has it too
+pub record New (text table : List ℕ) (i : ℕ) (s : List ℕ) (r : Bool) : Type 0 where
+  pub is : r ≡ not (seen (part_in text table (4 * i)) (items (pair_in text table) 4 i 0))
   pub after : IndexedWhere r text table (i + 1) s
 
 abbrev pub IndexedAfter : Checked → List ℕ → List ℕ → ℕ → List ℕ → Type 0
-IndexedAfter Passes text table n s = Indexed text table n s
-IndexedAfter (Fails r) text table n s = Unit {0}
+IndexedAfter (Ok u) text table n s = Indexed text table n s
+IndexedAfter (Err r) text table n s = Unit {0}
 
--- what the checks of the i-th pair, at `at`, find; and where it passes the index has it
-pub record PairChecked (text table : List ℕ) (i at : ℕ) (s : List ℕ) (r : Checked) : Type 0 where
-  pub is : r ≡ checked (first (pair_checks (items (pair_in text table) 4 i 0) (pair_in text table at)))
+-- what the checks of the i-th pair find; and where it passes the index has it
+pub record PairChecked (text table : List ℕ) (i : ℕ) (s : List ℕ) (r : Checked) : Type 0 where
+  pub is : r ≡ checked (first (pair_checks (items (pair_in text table) 4 i 0) (pair_in text table (4 * i))))
   pub after : IndexedAfter r text table (i + 1) s
 
 -- the first i pairs pass, and the index has room for their keys and has them
 pub record Reached (text table : List ℕ) (i : ℕ) (s : List ℕ) : Type 0 where
-  pub checks : Each pair_checks (pair_in text table) 4 (length table / 4) i (4 * i)
+  pub checks : Each pair_checks (pair_in text table) 4 (length table / 4) i
   pub room : i ≤ length s
   pub index : Indexed text table i s
 
 abbrev pub UpTo : List ℕ → List ℕ → ℕ → List ℕ → Checked → Type 0
-UpTo text table i s Passes = Reached text table i s
-UpTo text table i s (Fails r) = Fails r ≡ checked (first (each pair_checks [] (pairs_in text table)))
+UpTo text table i s (Ok u) = Reached text table i s
+UpTo text table i s (Err r) = ◌≡◌ {A = Checked} (Err r) (checked (first (each pair_checks [] (pairs_in text table))))
 
 -- r says that the first i pairs pass, or it is what the checks of all of them find
 pub record CheckedUpTo (text table : List ℕ) (i : ℕ) (s : List ℕ) (r : Checked) : Type 0 where

@@ -3,23 +3,18 @@ ghost use Rattle.std.specs.Prelude.{◌≡◌};
 ghost use Rattle.format.specs.Checks.{first, sealed_checks};
 ghost use Rattle.checks.specs.Answers.{checked};
 
-use super::{Checked, fails};
-use wire::refusals::{IV_LENGTH, TAG_LENGTH};
-
-// Of every suite.
-const IV_LEN: usize = 12;
-
-const TAG_LEN: usize = 16;
+use suites::Suite;
+use wire::refusals::{Reason, Refusal};
 
 // 19; 30.
-pub fn check_sealed(iv: usize, tag: usize) -> Checked
+pub fn check_sealed(iv: usize, tag: usize) -> Result<(), Refusal>
     ensures { result ≡ checked (first (sealed_checks iv tag)) }
 {
-    if iv != IV_LEN {
-        return fails(IV_LENGTH);
+    if iv != Suite::IV_LEN {
+        return Err(Reason::IvLength.into());
     }
-    if tag != TAG_LEN {
-        return fails(TAG_LENGTH);
+    if tag != Suite::TAG_LEN {
+        return Err(Reason::TagLength.into());
     }
-    Checked::Passes
+    Ok(())
 }

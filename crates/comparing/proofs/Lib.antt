@@ -1,2 +1,1 @@
 pub mod Ordered
-pub mod CompareLaws

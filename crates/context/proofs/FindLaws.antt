@@ -3,31 +3,34 @@ use mathlib.Core.Path.{◌≡◌, refl, sym, ap, subst, ◌∙◌}
 use mathlib.Core.Bool.{Bool, true, false, cond}
 use mathlib.Core.List.{List, [], ◌∷◌}
 use Prim.Native.Nat.{ℕ, zero, suc, ◌+◌, ◌-◌, ◌≤◌, ◌<◌}
-use native.Mathlib.Nat.{sub-zero, add-sub_cancel_left}
+use native.Mathlib.Nat.{sub-zero}
 use native.Mathlib.Omega.{arith}
 use denote.Ref.{Bor}
 use lib.ListN.{length, take, drop}
-use Rattle.format.specs.Read.{accepted, refused, at, operation, addressable}
+use Rattle.std.specs.Prelude.{Result, Ok, Err}
+use Rattle.format.specs.Read.{accepted, refused, at, operation}
 use Rattle.format.specs.Serialize.{Part, same_bytes}
 use Rattle.format.specs.Fields.{PairAt}
 use Rattle.format.specs.Context.{tolerant, read_aad_section, look_up, find_value}
-use Rattle.format.specs.Lent.{found_part}
+use Rattle.format.specs.Lent.{bytes_at, found_part}
 use Rattle.format.specs.Places.{number16, part_of, entry_here, entry_end, items_here, items_end, pair_here, pair_end, pairs_here, pairs_end}
 use Rattle.steps.proofs.Steps.{refused_is_none, go, stop, un_bind}
 use Rattle.steps.proofs.Numbers.{length_part}
-use Rattle.steps.proofs.Operations.{un_operation, operation_guarded, operation_reached}
+use Rattle.steps.proofs.Operations.{un_operation, operation_guarded}
 use Rattle.wire.specs.Codes.{because}
-use Rattle.wire.specs.declared.Refusal.{Refusal}
-use Rattle.entries.specs.Codes.{EntryIs}
-use Rattle.entries.specs.declared.Entry.{Entry}
+use Rattle.wire.specs.declared.refusals.Refusal.{Refusal}
+use Rattle.wire.specs.declared.SuccessfulRead.{SuccessfulRead}
+use Rattle.wire.specs.declared.Span.{Span}
+use Rattle.wire.specs.Buffer.{from, Opens}
+use Rattle.wire.specs.declared.buffer.ReadableBuffer.{ReadableBuffer}
+use Rattle.wire.proofs.BufferLaws.{operation_from, why}
+use Rattle.entries.specs.Codes.{EntryIs, counted}
+use Rattle.entries.proofs.Sections.{counted_no}
 use Rattle.entries.proofs.Items.{reach, end_step, here_step}
-use Rattle.context.specs.Codes.{context_of, why_context, found_of, found_in, PartOf}
-use Rattle.context.specs.declared.ContextAnswer.{ContextAnswer}
-use Rattle.context.specs.declared.ContextAnswer.TheVariants as context
-use Rattle.context.specs.declared.FoundAnswer.{FoundAnswer}
-use Rattle.context.specs.declared.FoundAnswer.TheVariants as found
+use Rattle.context.specs.Codes.{found_of, found_in, PartOf}
+use Rattle.context.specs.declared.Place.{Place}
 use Rattle.request.specs.declared.Mode.TheVariants.{Tolerant}
-use Rattle.context.proofs.Answers.{context_no, HadValue, found_got, found_no}
+use Rattle.context.proofs.Answers.{HadValue, found_got, found_no}
 use Rattle.context.proofs.Known.{forward, section_tidy, section_known}
 use Rattle.context.proofs.Whole.{Had, had}
 
@@ -52,7 +55,7 @@ module _ (k m : List ℕ) (t : ℕ) where
   up_found (p ∷ ps) = by (same_bytes k p.key.bytes) refl (up_found ps)
     where
       by : (b : Bool) → same_bytes k p.key.bytes ≡ b → found_of (at (look_up k ps) m t) ≡ found_in k ps
-          → found_of (at (look_up k (p ∷ ps)) m t) ≡ cond b (found.At p.value.start (length p.value.bytes)) (found_in k ps)
+          → found_of (at (look_up k (p ∷ ps)) m t) ≡ cond b (Ok (record { start = p.value.start; len = length p.value.bytes })) (found_in k ps)
       by true e ih = ap found_of (up_hit p ps e)
       by false e ih = ap found_of (up_past p ps e) ∙ ih
 
@@ -66,9 +69,9 @@ pub looked_start : (k m : List ℕ) (first n : ℕ) → (0 < n → pairs_end m n
 looked_start k m first n h = record { some = omega arith; inside = rw sub-zero h; left = rw sub-zero }
 
 module _ (k m : List ℕ) (first n i s : ℕ) (w : Looked k m first n i s) where
-  pub looked_none : n ≤ i → (a : Refusal) → a ≡ because 29 0 → found.Refused a ≡ found_in k (pairs_here m n first)
+  pub looked_none : n ≤ i → (q : Refusal) → q ≡ because 29 0 → ◌≡◌ {A = Result Place Refusal} (Err q) (found_in k (pairs_here m n first))
   unfolding found_in items_here
-  looked_none h a f = let e : n - i ≡ 0 = omega arith in ap (λ (q : Refusal). found.Refused q) f ∙ sym (w.left ∙ rw e)
+  looked_none h q f = let e : n - i ≡ 0 = omega arith in ap Err f ∙ sym (w.left ∙ rw e)
 
   module _ (h : i < n) where
     whole : pair_end m s ≤ length m
@@ -77,18 +80,12 @@ module _ (k m : List ℕ) (first n i s : ℕ) (w : Looked k m first n i s) where
     pub looked_key : entry_end m s ≤ length m
     looked_key = omega (arith, whole)
 
-    module _ (e : Entry) (is : EntryIs m s e) where
+    module _ (e : Span) (is : EntryIs m s e) where
       pub looked_value : entry_end m e.tail ≤ length m
       looked_value = rw is.ends whole
 
-      pub looked_fits : e.tail ≤ length m
-      looked_fits = rw is.ends looked_key
-
-      pub looked_order : e.start ≤ e.tail
-      looked_order = rw (is.ends, is.starts) (omega arith)
-
-      module _ (v : Entry) (vIs : EntryIs m e.tail v) (r : Bool) (f : r ≡ same_bytes k (take (e.tail - e.start) (drop e.start m))) where
-        step : found_in k (pairs_here m n first) ≡ cond r (found.At v.start v.len) (found_in k (pairs_here m (n - (i + 1)) v.tail))
+      module _ (v : Span) (vIs : EntryIs m e.tail v) (b : List ℕ) (bIs : b ≡ bytes_at m (s + 2) (number16 m s)) (r : Bool) (f : r ≡ same_bytes k b) where
+        step : found_in k (pairs_here m n first) ≡ cond r (Ok (record { start = v.start; len = v.len })) (found_in k (pairs_here m (n - (i + 1)) v.tail))
         unfolding found_in
         step =
             w.left
@@ -96,15 +93,14 @@ module _ (k m : List ℕ) (first n i s : ℕ) (w : Looked k m first n i s) where
               here_step pair_here pair_end m n i s h,
               length_part m (entry_end m s + 2) (number16 m (entry_end m s)) whole,
               f,
+              bIs,
               vIs.starts,
               vIs.size,
               vIs.ends,
               is.ends,
-              is.starts,
-              add-sub_cancel_left (s + 2) (number16 m s),
             )
 
-        pub looked_hit : r ≡ true → found.At v.start v.len ≡ found_in k (pairs_here m n first)
+        pub looked_hit : r ≡ true → ◌≡◌ {A = Result Place Refusal} (Ok (record { start = v.start; len = v.len })) (found_in k (pairs_here m n first))
         looked_hit t = sym (step ∙ rw t)
 
         pub looked_past : r ≡ false → Looked k m first n (i + 1) v.tail
@@ -113,29 +109,29 @@ module _ (k m : List ℕ) (first n i s : ℕ) (w : Looked k m first n i s) where
             record { some = omega arith; inside = λ _. rw to (rw (end_step pair_end m n i s h) at (w.inside h)); left = step ∙ rw t }
 
 -- in a section
-module _ (k m : List ℕ) (start : ℕ) (a : ContextAnswer) (aIs : a ≡ context_of (at (read_aad_section tolerant) m start)) where
-  pub value_not : (q : Refusal) → a ≡ context.Refused q → (w : Refusal) → w ≡ why_context a → found.Refused w ≡ found_of (at (find_value k) m start)
+module _ (k m : List ℕ) (start : ℕ) (a : Result (SuccessfulRead ℕ) Refusal) (aIs : a ≡ counted (at (read_aad_section tolerant) m start)) where
+  pub value_not : (q : Refusal) → a ≡ Err q → ◌≡◌ {A = Result Place Refusal} (Err q) (found_of (at (find_value k) m start))
   unfolding find_value
-  value_not q b w f = rw (f, b, stop _ (section_tidy tolerant) m start _ _ (context_no (at (read_aad_section tolerant) m start) a aIs q b))
+  value_not q b = rw (stop _ (section_tidy tolerant) m start _ _ (counted_no (at (read_aad_section tolerant) m start) a aIs q b))
 
-  module _ (pairs tail : ℕ) (b : a ≡ context.Accepted pairs tail) where
-    abbrev read : Had Tolerant m start pairs tail
-    read = had Tolerant m start a aIs pairs tail b
+  module _ (pairs : SuccessfulRead ℕ) (b : a ≡ Ok pairs) where
+    abbrev read : Had Tolerant m start pairs
+    read = had Tolerant m start a aIs pairs b
 
-    pub value_up : (r : FoundAnswer) → r ≡ found_in k (pairs_here m pairs (start + 4)) → r ≡ found_of (at (find_value k) m start)
+    pub value_up : (r : Result Place Refusal) → r ≡ found_in k (pairs_here m pairs.value (start + 4)) → r ≡ found_of (at (find_value k) m start)
     unfolding find_value
     value_up r f =
         f
         ∙ ap (found_in k) (sym read.are)
-        ∙ sym (ap found_of (go _ (section_tidy tolerant) m start read.items tail read.is) ∙ up_found k m tail read.items)
+        ∙ sym (ap found_of (go _ (section_tidy tolerant) m start read.items pairs.tail read.is) ∙ up_found k m pairs.tail read.items)
 
--- as an operation of its own
-module _ (k m : List ℕ) (start : ℕ) (b : Bool) (is : b ≡ addressable m start) where
-  pub find_here : b ≡ true → (r : FoundAnswer) → r ≡ found_of (at (find_value k) m start) → r ≡ found_of (operation (find_value k) m start)
-  find_here e r f = f ∙ sym (ap found_of (operation_reached (find_value k) m start (sym is ∙ e)))
+-- as an operation, which opens a buffer and goes on
+module _ (k : List ℕ) (m : Bor (List ℕ)) (start : ℕ) (x : Result ReadableBuffer Refusal) (opens : Opens m start x) where
+  pub find_on : (b : ReadableBuffer) → x ≡ Ok b → (r : Result Place Refusal) → r ≡ found_of (from (find_value k) b) → r ≡ found_of (operation (find_value k) m.now start)
+  find_on b is r f = f ∙ ap found_of (operation_from m start x opens b is (find_value k))
 
-  pub find_guarded : b ≡ false → (a : Refusal) → a ≡ because 1 0 → found.Refused a ≡ found_of (operation (find_value k) m start)
-  find_guarded e a f = rw (f, operation_guarded (find_value k) m start (sym is ∙ e))
+  pub find_none : (q : Refusal) → x ≡ Err q → ◌≡◌ {A = Result Place Refusal} (Err q) (found_of (operation (find_value k) m.now start))
+  find_none q is = let (f, g) = why m start x opens q is in rw (f, operation_guarded (find_value k) m.now start g)
 
 -- what is found stands in the message
 pub record Stands (m : List ℕ) (p : Part) : Type 0 where
@@ -165,26 +161,23 @@ find_known k m start p u e =
     up_known k m z.1 (length z.0) (start + 4) y.inside p u (ap (λ (l : List PairAt). at (look_up k l) m z.1) (sym y.are) ∙ z.3)
 
 -- the companion
-pub part_bytes : (m : List ℕ) (s n : ℕ) → take (s + n - s) (drop s m) ≡ take n (drop s m)
-part_bytes m s n = rw add-sub_cancel_left
-
-module _ (k m : List ℕ) (start : ℕ) (f : FoundAnswer) (is : f ≡ found_of (operation (find_value k) m start)) where
-  pub part_none : (q : Refusal) → f ≡ found.Refused q → (lent given : Bor (List ℕ)) → PartOf lent given (part_of m 0 0) → PartOf lent given (found_part (operation (find_value k) m start))
+module _ (k m : List ℕ) (start : ℕ) (f : Result Place Refusal) (is : f ≡ found_of (operation (find_value k) m start)) where
+  pub part_none : (q : Refusal) → f ≡ Err q → (lent given : Bor (List ℕ)) → PartOf lent given (part_of m 0 0) → PartOf lent given (found_part (operation (find_value k) m start))
   part_none q b lent given h =
       let e : part_of m 0 0 ≡ found_part (operation (find_value k) m start) = sym (ap found_part (found_no (operation (find_value k) m start) f is q b)) in
       subst (PartOf lent given) e h
 
-  module _ (s n : ℕ) (b : f ≡ found.At s n) where
-    had_value : HadValue (operation (find_value k) m start) s n
-    had_value = found_got (operation (find_value k) m start) f is s n b
+  module _ (v : Place) (b : f ≡ Ok v) where
+    had_value : HadValue (operation (find_value k) m start) v
+    had_value = found_got (operation (find_value k) m start) f is v b
 
     stands : Stands m had_value.item
     stands = find_known k m start had_value.item had_value.tail (un_operation (find_value k) m start had_value.item had_value.tail had_value.is).2
 
-    pub part_in : s + n ≤ length m
+    pub part_in : v.start + v.len ≤ length m
     part_in = rw (had_value.from, had_value.long) at stands.within
 
-    pub part_is : (lent given : Bor (List ℕ)) → PartOf lent given (part_of m s n) → PartOf lent given (found_part (operation (find_value k) m start))
+    pub part_is : (lent given : Bor (List ℕ)) → PartOf lent given (part_of m v.start v.len) → PartOf lent given (found_part (operation (find_value k) m start))
     part_is lent given h =
-        let e : had_value.item ≡ part_of m s n = stands.is ∙ rw (had_value.from, had_value.long) in
+        let e : had_value.item ≡ part_of m v.start v.len = stands.is ∙ rw (had_value.from, had_value.long) in
         subst (PartOf lent given) (sym (ap found_part had_value.is ∙ e)) h

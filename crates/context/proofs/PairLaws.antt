@@ -5,24 +5,22 @@ use mathlib.Core.List.{List, []}
 use Prim.Native.Nat.{ℕ, zero, suc, ◌+◌, ◌*◌, ◌≤◌, ◌<◌}
 use native.Mathlib.Numerals.{add-one}
 use native.Mathlib.Omega.{arith}
-use borrow.Author.Tests.{ltb-true, ltb-false, leb-true, leb-false}
-use lib.Dec.{leb, ltb}
+use borrow.Author.Tests.{ltb-true, ltb-false}
+use lib.Dec.{ltb}
 use lib.ListN.{length}
+use Rattle.std.specs.Prelude.{Result, Ok, Err}
 use Rattle.format.specs.Read.{end_at, accepted, repeat, at}
 use Rattle.format.specs.Fields.{PairAt}
 use Rattle.format.specs.Context.{read_text, read_aad_pair, read_next_aad_pair}
 use Rattle.format.specs.Places.{number16, items_end, pair_here, pair_end, pairs_end}
 use Rattle.steps.proofs.Tidy.{text_tidy}
 use Rattle.steps.proofs.Steps.{go, stop, pass, fail, gives}
-use Rattle.wire.specs.Codes.{because, span_of, why_span}
-use Rattle.wire.specs.declared.Refusal.{Refusal}
+use Rattle.wire.specs.Codes.{because, span_of}
+use Rattle.wire.specs.declared.refusals.Refusal.{Refusal}
 use Rattle.wire.specs.declared.Span.{Span}
-use Rattle.wire.specs.declared.Span.TheVariants as span
 use Rattle.wire.proofs.Answers.{span_no}
 use Rattle.wire.proofs.Stood.{Stood, text_stood}
 use Rattle.entries.specs.Codes.{next_of}
-use Rattle.entries.specs.declared.Next.{Next}
-use Rattle.entries.specs.declared.Next.TheVariants as next
 use Rattle.entries.proofs.Answers.{next_got, next_no}
 use Rattle.entries.proofs.Items.{reach}
 use Rattle.entries.proofs.Walk.{walk_start, walk_end, walk_stop, walk_more}
@@ -33,30 +31,28 @@ use Rattle.context.specs.Stepping.{Space, Onward, Grown, After, Stepped, Reached
 use Rattle.context.proofs.Known.{pair_tidy, pair_known, pair_held, pair_kind, forward}
 
 -- a key and a value
-module _ (m : List ℕ) (s end : ℕ) (k : Span) (kIs : k ≡ span_of (at (read_text (end_at end) 10) m s)) where
-  pub pair_no_key : (q : Refusal) → k ≡ span.Not q → (a : Refusal) → a ≡ why_span k → next.Not a ≡ next_of (at (read_aad_pair (end_at end)) m s)
+module _ (m : List ℕ) (s end : ℕ) (k : Result Span Refusal) (kIs : k ≡ span_of (at (read_text (end_at end) 10) m s)) where
+  pub pair_no_key : (q : Refusal) → k ≡ Err q → ◌≡◌ {A = Result ℕ Refusal} (Err q) (next_of (at (read_aad_pair (end_at end)) m s))
   unfolding read_aad_pair
-  pair_no_key q b a f = rw (f, b, stop _ (text_tidy (end_at end) 10) m s _ _ (span_no (at (read_text (end_at end) 10) m s) k kIs q b))
+  pair_no_key q b = rw (stop _ (text_tidy (end_at end) 10) m s _ _ (span_no (at (read_text (end_at end) 10) m s) k kIs q b))
 
-  module _ (key n second : ℕ) (kb : k ≡ span.At key n second) (v : Span) (vIs : v ≡ span_of (at (read_text (end_at end) 11) m second)) where
-    ks : Stood (at (read_text (end_at end) 10) m s) m (s + 2) (number16 m s) key n second
-    ks = text_stood m s k key n second kb (end_at end) 10 kIs
+  module _ (key : Span) (kb : k ≡ Ok key) (v : Result Span Refusal) (vIs : v ≡ span_of (at (read_text (end_at end) 11) m key.tail)) where
+    ks : Stood (at (read_text (end_at end) 10) m s) m (s + 2) (number16 m s) key
+    ks = text_stood m s k key kb (end_at end) 10 kIs
 
-    pub pair_no_value : (q : Refusal) → v ≡ span.Not q → (a : Refusal) → a ≡ why_span v → next.Not a ≡ next_of (at (read_aad_pair (end_at end)) m s)
+    pub pair_no_value : (q : Refusal) → v ≡ Err q → ◌≡◌ {A = Result ℕ Refusal} (Err q) (next_of (at (read_aad_pair (end_at end)) m s))
     unfolding read_aad_pair
-    pair_no_value q b a f =
+    pair_no_value q b =
         rw (
-          f,
-          b,
-          go _ (text_tidy (end_at end) 10) m s _ second ks.is,
-          stop _ (text_tidy (end_at end) 11) m second _ _ (span_no (at (read_text (end_at end) 11) m second) v vIs q b),
+          go _ (text_tidy (end_at end) 10) m s _ key.tail ks.is,
+          stop _ (text_tidy (end_at end) 11) m key.tail _ _ (span_no (at (read_text (end_at end) 11) m key.tail) v vIs q b),
         )
 
-    pub pair_whole : (value w t : ℕ) → v ≡ span.At value w t → next.At t ≡ next_of (at (read_aad_pair (end_at end)) m s)
+    pub pair_whole : (value : Span) → v ≡ Ok value → ◌≡◌ {A = Result ℕ Refusal} (Ok value.tail) (next_of (at (read_aad_pair (end_at end)) m s))
     unfolding read_aad_pair
-    pair_whole value w t b =
-        let vs = text_stood m second v value w t b (end_at end) 11 vIs in
-        rw (go _ (text_tidy (end_at end) 10) m s _ second ks.is, go _ (text_tidy (end_at end) 11) m second _ t vs.is, gives _ m t)
+    pair_whole value b =
+        let vs = text_stood m key.tail v value b (end_at end) 11 vIs in
+        rw (go _ (text_tidy (end_at end) 10) m s _ key.tail ks.is, go _ (text_tidy (end_at end) 11) m key.tail _ value.tail vs.is, gives _ m value.tail)
 
 -- where a pair stands
 record Stands (m : List ℕ) (s end t : ℕ) : Type 0 where
@@ -65,23 +61,23 @@ record Stands (m : List ℕ) (s end t : ℕ) : Type 0 where
   within : t ≤ length m
   held : t ≤ end
 
-stands : (m : List ℕ) (s end : ℕ) (x : Next) → x ≡ next_of (at (read_aad_pair (end_at end)) m s) → (t : ℕ) → x ≡ next.At t → Stands m s end t
+stands : (m : List ℕ) (s end : ℕ) (x : Result ℕ Refusal) → x ≡ next_of (at (read_aad_pair (end_at end)) m s) → (t : ℕ) → x ≡ Ok t → Stands m s end t
 stands m s end x xIs t b =
     let g = next_got (at (read_aad_pair (end_at end)) m s) x xIs t b in
     let p = pair_known (end_at end) m s g.item t g.is in
     record { is = g.is ∙ ap (λ (a : PairAt). accepted a t) p.is; tail = p.tail; within = p.within; held = pair_held end m s g.item t g.is }
 
 -- a pair behind others
-module _ (m : List ℕ) (first end n s : ℕ) (x : Next) (xIs : x ≡ next_of (at (read_aad_pair (end_at end)) m s)) where
-  pub step_none : (keys : List ℕ) (q : Refusal) → x ≡ next.Not q → Stepped m first end n s keys x
+module _ (m : List ℕ) (first end n s : ℕ) (x : Result ℕ Refusal) (xIs : x ≡ next_of (at (read_aad_pair (end_at end)) m s)) where
+  pub step_none : (keys : List ℕ) (q : Refusal) → x ≡ Err q → Stepped m first end n s keys (Err q)
   unfolding read_next_aad_pair
   step_none keys q b =
       record {
-        answer = b ∙ sym (ap next_of (stop _ (pair_tidy (end_at end)) m s _ _ (next_no (at (read_aad_pair (end_at end)) m s) x xIs q b)));
-        after = subst (After m first end n keys) (sym b) tt;
+        answer = sym (ap next_of (stop _ (pair_tidy (end_at end)) m s _ _ (next_no (at (read_aad_pair (end_at end)) m s) x xIs q b)));
+        after = tt;
       }
 
-  module _ (t : ℕ) (b : x ≡ next.At t) (keys₀ : List ℕ) (on : Onward m first end n s keys₀) where
+  module _ (t : ℕ) (b : x ≡ Ok t) (keys₀ : List ℕ) (on : Onward m first end n s keys₀) where
     there : Stands m s end t
     there = stands m s end x xIs t b
 
@@ -98,24 +94,21 @@ module _ (m : List ℕ) (first end n s : ℕ) (x : Next) (xIs : x ≡ next_of (a
         }
 
     module _ (keys : List ℕ) (d : Bool) (added : Added m first n s keys d) where
-      pub step_seen : d ≡ true → (a : Refusal) → a ≡ because 12 0 → Stepped m first end n s keys (next.Not a)
+      pub step_seen : d ≡ true → (q : Refusal) → q ≡ because 12 0 → Stepped m first end n s keys (Err q)
       unfolding read_next_aad_pair
-      step_seen e a f =
+      step_seen e q f =
           record {
             answer = rw (f, go _ (pair_tidy (end_at end)) m s (pair_here m s) t there.is, fail 12 _ _ m t (ap not (sym added.answer ∙ e)));
             after = tt;
           }
 
-      pub step_whole : d ≡ false → Stepped m first end n s keys (next.At t)
+      pub step_whole : d ≡ false → Stepped m first end n s keys (Ok t)
       unfolding read_next_aad_pair
       step_whole e =
           record {
             answer = rw (go _ (pair_tidy (end_at end)) m s (pair_here m s) t there.is, pass 12 _ _ m t (ap not (sym added.answer ∙ e)), gives _ m t);
             after = record { index = added.after e; held = there.held };
           }
-
-pub step_near : (m : List ℕ) (first end n s : ℕ) (keys : List ℕ) → Onward m first end n s keys → length m < 4294967296 → s < 4294967296
-step_near m first end n s keys on h = omega (arith, on.held, on.space.inside)
 
 -- a pair takes four bytes or more
 four_each : (m : List ℕ) (n first : ℕ) → first + 4 * n ≤ pairs_end m n first
@@ -135,7 +128,7 @@ pub pass_start : (m : List ℕ) (first end n k : ℕ) (keys : List ℕ) (i s : �
 pass_start m first end n k keys i s there h g room = record { reached = there; some = h; most = g; long = refl; room = room }
 
 module _ (m : List ℕ) (first end n k : ℕ) (keys₀ keys : List ℕ) (i s : ℕ) (inv : Pass m first end n k keys₀ keys i s) where
-  pub pass_end : k ≤ i → ReadUpTo m first end n k keys (next.At s)
+  pub pass_end : k ≤ i → ReadUpTo m first end n k keys (Ok s)
   pass_end h = let e : i ≡ k = omega (arith, inv.some) in record { up_to = subst (λ (j : ℕ). Reached m first end n j s keys) e inv.reached }
 
   module _ (h : i < k) where
@@ -157,14 +150,11 @@ module _ (m : List ℕ) (first end n k : ℕ) (keys₀ keys : List ℕ) (i s : �
     below : i < n
     below = omega (arith, inv.most)
 
-    module _ (a : Next) (keys' : List ℕ) (step : Stepped m first end i s keys' a) where
-      pub pass_stop : (q : Refusal) → a ≡ next.Not q → ReadUpTo m first end n k keys' a
-      pass_stop q e =
-          record {
-            up_to = subst (UpTo m first end n k keys') (sym e) (sym e ∙ walk_stop m first n i s inv.reached.walk (pair_kind (end_at end)) below a step.answer q e);
-          }
+    module _ (a : Result ℕ Refusal) (keys' : List ℕ) (step : Stepped m first end i s keys' a) where
+      pub pass_stop : (q : Refusal) → a ≡ Err q → ReadUpTo m first end n k keys' (Err q)
+      pass_stop q e = record { up_to = walk_stop m first n i s inv.reached.walk (pair_kind (end_at end)) below a step.answer q e }
 
-      pub pass_more : (t : ℕ) → a ≡ next.At t → length keys' ≡ length keys → Pass m first end n k keys₀ keys' (i + 1) t
+      pub pass_more : (t : ℕ) → a ≡ Ok t → length keys' ≡ length keys → Pass m first end n k keys₀ keys' (i + 1) t
       pass_more t e l =
           let grown : Grown m first end i keys' t = subst (After m first end i keys') e step.after in
           record {
@@ -196,53 +186,47 @@ module _ (m : List ℕ) (first end n i s : ℕ) (keys : List ℕ) (there : Reach
         index = indexed_copied m first i keys larger there.index there.room c;
       }
 
-module _ (m : List ℕ) (first end n i : ℕ) (keys : List ℕ) (r : Next) (h : ReadUpTo m first end n i keys r) where
-  pub up_to_stop : (q : Refusal) → r ≡ next.Not q → r ≡ next_of (at (repeat n (read_next_aad_pair (end_at end)) []) m first)
-  up_to_stop q e = e ∙ subst (UpTo m first end n i keys) e h.up_to
+module _ (m : List ℕ) (first end n i : ℕ) (keys : List ℕ) (r : Result ℕ Refusal) (h : ReadUpTo m first end n i keys r) where
+  pub up_to_stop : (q : Refusal) → r ≡ Err q → ◌≡◌ {A = Result ℕ Refusal} (Err q) (next_of (at (repeat n (read_next_aad_pair (end_at end)) []) m first))
+  up_to_stop q e = subst (UpTo m first end n i keys) e h.up_to
 
-  module _ (s : ℕ) (e : r ≡ next.At s) where
+  module _ (s : ℕ) (e : r ≡ Ok s) where
     pub up_to_reached : Reached m first end n i s keys
     up_to_reached = subst (UpTo m first end n i keys) e h.up_to
 
     pub up_to_grown : (larger : List ℕ) → Copied keys larger → Reached m first end n i s larger
     up_to_grown larger c = reached_copied m first end n i s keys up_to_reached larger c
 
-    pub up_to_end : i ≡ n → next.At s ≡ next_of (at (repeat n (read_next_aad_pair (end_at end)) []) m first)
+    pub up_to_end : i ≡ n → ◌≡◌ {A = Result ℕ Refusal} (Ok s) (next_of (at (repeat n (read_next_aad_pair (end_at end)) []) m first))
     up_to_end f = walk_end m first n i s up_to_reached.walk (pair_kind (end_at end)) (omega arith)
 
-pub up_to_all : (m : List ℕ) (first end n : ℕ) (keys : List ℕ) (r : Next) → ReadUpTo m first end n n keys r → r ≡ next_of (at (repeat n (read_next_aad_pair (end_at end)) []) m first)
+pub up_to_all : (m : List ℕ) (first end n : ℕ) (keys : List ℕ) (r : Result ℕ Refusal) → ReadUpTo m first end n n keys r → r ≡ next_of (at (repeat n (read_next_aad_pair (end_at end)) []) m first)
 up_to_all m first end n keys r h = go r refl
   where
-    go : (x : Next) → r ≡ x → r ≡ next_of (at (repeat n (read_next_aad_pair (end_at end)) []) m first)
-    go (next.At s) e = e ∙ up_to_end m first end n n keys r h s e refl
-    go (next.Not q) e = up_to_stop m first end n n keys r h q e
+    go : (x : Result ℕ Refusal) → r ≡ x → r ≡ next_of (at (repeat n (read_next_aad_pair (end_at end)) []) m first)
+    go (Ok s) e = e ∙ up_to_end m first end n n keys r h s e refl
+    go (Err q) e = e ∙ up_to_stop m first end n n keys r h q e
 
 -- the index afterwards
-all_after : (m : List ℕ) (first end n room : ℕ) (keys : List ℕ) (r : Next) → ReadUpTo m first end n n keys r → AfterAll m first n room keys r
+all_after : (m : List ℕ) (first end n room : ℕ) (keys : List ℕ) (r : Result ℕ Refusal) → ReadUpTo m first end n n keys r → AfterAll m first n room keys r
 all_after m first end n room keys r h = go r refl
   where
-    go : (x : Next) → r ≡ x → AfterAll m first n room keys r
-    go (next.At s) e = subst (AfterAll m first n room keys) (sym e) (λ _. let y = up_to_reached m first end n n keys r h s e in record { room = y.room; indexed = y.index })
-    go (next.Not q) e = subst (AfterAll m first n room keys) (sym e) tt
+    go : (x : Result ℕ Refusal) → r ≡ x → AfterAll m first n room keys r
+    go (Ok s) e = subst (AfterAll m first n room keys) (sym e) (λ _. let y = up_to_reached m first end n n keys r h s e in record { room = y.room; indexed = y.index })
+    go (Err q) e = subst (AfterAll m first n room keys) (sym e) tt
 
-pub all_indexed : (m : List ℕ) (first end n room : ℕ) (keys : List ℕ) (r : Next) → ReadUpTo m first end n n keys r → ReadAll m first end n room keys r
+pub all_indexed : (m : List ℕ) (first end n room : ℕ) (keys : List ℕ) (r : Result ℕ Refusal) → ReadUpTo m first end n n keys r → ReadAll m first end n room keys r
 all_indexed m first end n room keys r h = record { answer = up_to_all m first end n keys r h; after = all_after m first end n room keys r h }
 
 -- and an index that has no room for them promises nothing
-pub all_grown : (m : List ℕ) (first end n room : ℕ) (keys : List ℕ) (r : Next) → room < 16384 → room < n → r ≡ next_of (at (repeat n (read_next_aad_pair (end_at end)) []) m first) → ReadAll m first end n room keys r
+pub all_grown : (m : List ℕ) (first end n room : ℕ) (keys : List ℕ) (r : Result ℕ Refusal) → room < 16384 → room < n → r ≡ next_of (at (repeat n (read_next_aad_pair (end_at end)) []) m first) → ReadAll m first end n room keys r
 all_grown m first end n room keys r few less e = record { answer = e; after = go r }
   where
-    go : (x : Next) → AfterAll m first n room keys x
-    go (next.At s) = λ h. absurd (omega (arith, h few))
-    go (next.Not q) = tt
+    go : (x : Result ℕ Refusal) → AfterAll m first n room keys x
+    go (Ok s) = λ h. absurd (omega (arith, h few))
+    go (Err q) = tt
 
 -- whether there is room
-pub room_largest : (room n : ℕ) → 16384 ≤ room → HasRoom room n true
-room_largest room n h = record { enough = λ e k. absurd (omega arith); small = λ e. let z : ◌≡◌ {A = ℕ} 0 1 = cc in absurd (omega arith); less = λ e. let z : ◌≡◌ {A = ℕ} 0 1 = cc in absurd (omega arith) }
-
-pub room_test : (room n : ℕ) → room < 16384 → HasRoom room n (leb n room)
-room_test room n h = record { enough = λ e k. leb-true n room e; small = λ e. h; less = λ e. leb-false n room e }
-
 module _ (room n : ℕ) (r : Bool) (h : HasRoom room n r) where
   pub room_enough : r ≡ true → room < 16384 → n ≤ room
   room_enough = h.enough

@@ -1,2 +1,3 @@
 pub mod Codes
+pub mod Reading
 pub mod Stepping

@@ -1,14 +1,12 @@
 -- What the steps of reading pairs with the index of their keys say to each other. Assumes nothing.
-use Rattle.std.specs.Prelude.{◌≡◌, Bool, true, false, List, [], ℕ, suc, ◌+◌, ◌≤◌, ◌<◌, length}
+use Rattle.std.specs.Prelude.{◌≡◌, Bool, true, false, List, [], ℕ, suc, ◌+◌, ◌≤◌, ◌<◌, length, Result, Ok, Err}
 use Rattle.format.specs.Read.{end_at, at, repeat}
 use Rattle.format.specs.Context.{read_next_aad_pair}
 use Rattle.format.specs.Places.{pair_here, pair_end, pairs_here, pairs_end}
 use Rattle.entries.specs.Walk.{Walk}
 use Rattle.entries.specs.Codes.{next_of}
-use Rattle.entries.specs.declared.Next.{Next}
-use Rattle.entries.specs.declared.Next.TheVariants as next
-use Rattle.context.specs.declared.ContextAnswer.{ContextAnswer}
-use Rattle.context.specs.declared.ContextAnswer.TheVariants as context
+use Rattle.wire.specs.declared.SuccessfulRead.{SuccessfulRead}
+use Rattle.wire.specs.declared.refusals.Refusal.{Refusal}
 use Rattle.pair_index.specs.Index.{Indexed}
 
 -- a section's pairs stand from `first` to `end` at most, in the message, and take fewer than 65,534 bytes
@@ -29,12 +27,12 @@ pub record Grown (m : List ℕ) (first end n : ℕ) (keys : List ℕ) (t : ℕ) 
   pub index : Indexed m first (suc n) keys
   pub held : t ≤ end
 
-abbrev pub After : List ℕ → ℕ → ℕ → ℕ → List ℕ → Next → Type 0
-After m first end n keys (next.At t) = Grown m first end n keys t
-After m first end n keys (next.Not r) = Unit {0}
+abbrev pub After : List ℕ → ℕ → ℕ → ℕ → List ℕ → Result ℕ Refusal → Type 0
+After m first end n keys (Ok t) = Grown m first end n keys t
+After m first end n keys (Err r) = Unit {0}
 
 -- the answer is the definition's, and the index follows it
-pub record Stepped (m : List ℕ) (first end n s : ℕ) (keys : List ℕ) (r : Next) : Type 0 where
+pub record Stepped (m : List ℕ) (first end n s : ℕ) (keys : List ℕ) (r : Result ℕ Refusal) : Type 0 where
   pub answer : r ≡ next_of (at (read_next_aad_pair (end_at end) (pairs_here m n first)) m s)
   pub after : After m first end n keys r
 
@@ -46,12 +44,12 @@ pub record Reached (m : List ℕ) (first end n i s : ℕ) (keys : List ℕ) : Ty
   pub room : i ≤ length keys
   pub index : Indexed m first i keys
 
-abbrev pub UpTo : List ℕ → ℕ → ℕ → ℕ → ℕ → List ℕ → Next → Type 0
-UpTo m first end n i keys (next.At t) = Reached m first end n i t keys
-UpTo m first end n i keys (next.Not r) = next.Not r ≡ next_of (at (repeat n (read_next_aad_pair (end_at end)) []) m first)
+abbrev pub UpTo : List ℕ → ℕ → ℕ → ℕ → ℕ → List ℕ → Result ℕ Refusal → Type 0
+UpTo m first end n i keys (Ok t) = Reached m first end n i t keys
+UpTo m first end n i keys (Err r) = ◌≡◌ {A = Result ℕ Refusal} (Err r) (next_of (at (repeat n (read_next_aad_pair (end_at end)) []) m first))
 
 -- r is the place where i of n pairs end, or it is the whole reading's refusal
-pub record ReadUpTo (m : List ℕ) (first end n i : ℕ) (keys : List ℕ) (r : Next) : Type 0 where
+pub record ReadUpTo (m : List ℕ) (first end n i : ℕ) (keys : List ℕ) (r : Result ℕ Refusal) : Type 0 where
   pub up_to : UpTo m first end n i keys r
 
 -- an index that is lent is small enough to grow, or it has as many places as any section needs
@@ -73,19 +71,19 @@ pub record HasPairs (m : List ℕ) (first n : ℕ) (keys : List ℕ) : Type 0 wh
   pub room : n ≤ length keys
   pub indexed : Indexed m first n keys
 
-abbrev pub AfterAll : List ℕ → ℕ → ℕ → ℕ → List ℕ → Next → Type 0
-AfterAll m first n room keys (next.At t) = Roomy room n → HasPairs m first n keys
-AfterAll m first n room keys (next.Not r) = Unit {0}
+abbrev pub AfterAll : List ℕ → ℕ → ℕ → ℕ → List ℕ → Result ℕ Refusal → Type 0
+AfterAll m first n room keys (Ok t) = Roomy room n → HasPairs m first n keys
+AfterAll m first n room keys (Err r) = Unit {0}
 
 -- r is where n pairs from `first` on end, or their refusal; and an index that has room for them has them
-pub record ReadAll (m : List ℕ) (first end n room : ℕ) (keys : List ℕ) (r : Next) : Type 0 where
+pub record ReadAll (m : List ℕ) (first end n room : ℕ) (keys : List ℕ) (r : Result ℕ Refusal) : Type 0 where
   pub answer : r ≡ next_of (at (repeat n (read_next_aad_pair (end_at end)) []) m first)
   pub after : AfterAll m first n room keys r
 
 -- the same of a section that was read
-abbrev pub AfterSection : List ℕ → ℕ → ℕ → List ℕ → ContextAnswer → Type 0
-AfterSection m first room keys (context.Accepted n t) = Roomy room n → HasPairs m first n keys
-AfterSection m first room keys (context.Refused r) = Unit {0}
+abbrev pub AfterSection : List ℕ → ℕ → ℕ → List ℕ → Result (SuccessfulRead ℕ) Refusal → Type 0
+AfterSection m first room keys (Ok r) = Roomy room r.value → HasPairs m first r.value keys
+AfterSection m first room keys (Err q) = Unit {0}
 
-pub record Indexes (m : List ℕ) (first room : ℕ) (keys : List ℕ) (r : ContextAnswer) : Type 0 where
+pub record Indexes (m : List ℕ) (first room : ℕ) (keys : List ℕ) (r : Result (SuccessfulRead ℕ) Refusal) : Type 0 where
   pub after : AfterSection m first room keys r

@@ -1,46 +1,39 @@
 // Finding a value in the context section at a place of a message, without refusal 1.
-ghost use Rattle.std.specs.Prelude.{◌≡◌, ◌+◌, ◌≤◌, ◌<◌, length};
-ghost use Rattle.format.specs.Read.{at};
+ghost use Rattle.std.specs.Prelude.{◌≡◌, ◌≤◌, ◌<◌, length};
 ghost use Rattle.format.specs.Context.{find_value};
 ghost use Rattle.format.specs.Places.{pairs_here, pairs_end};
+ghost use Rattle.wire.specs.Buffer.{from};
 ghost use Rattle.context.specs.Codes.{found_of, found_in};
 
-use super::{ContextAnswer, FoundAnswer, section};
+use super::{Place, section};
 use request::Mode;
-use wire::{refusals, refuse};
+use wire::buffer::ReadableBuffer;
+use wire::refusals::{Reason, Refusal};
 
 // The value of the first of the `count` pairs from `first` on that has the key.
-fn look_up(m: &[u8], first: u64, count: u64, key: &[u8]) -> FoundAnswer
+fn look_up(m: &[u8], first: u64, count: u64, key: &[u8]) -> Result<Place, Refusal>
     requires { 0 < count → pairs_end m.now count first ≤ length m.now }
     ensures { result ≡ found_in key.now (pairs_here m.now count first) }
 {
-    let mut i: u64 = 0;
     let mut s = first;
-    while i < count {
+    for _ in 0..count {
         let k = entries::known_entry(m, s);
         let v = entries::known_entry(m, k.tail);
-        let from = k.start as usize;
-        let to = k.tail as usize;
-        if comparing::same(key, &m[from..to]) {
-            return FoundAnswer::At {
+        if comparing::same(key, entries::known_bytes(m, s)) {
+            return Ok(Place {
                 start: v.start,
                 len: v.len,
-            };
+            });
         }
         s = v.tail;
-        i += 1;
     }
-    FoundAnswer::Refused(refuse(refusals::NOT_FOUND))
+    Err(Reason::NotFound.into())
 }
 
 // GetEncryptionContext, as a find, of the section at a place.
-pub(crate) fn value_at(m: &[u8], start: u64, key: &[u8]) -> FoundAnswer
-    requires { (start < 4294967296) × (length m.now < 4294967296) }
-    ensures { result ≡ found_of (at (find_value key.now) m.now start) }
+pub(crate) fn value_at(buffer: ReadableBuffer, key: &[u8]) -> Result<Place, Refusal>
+    ensures { result ≡ found_of (from (find_value key.now) buffer.entry) }
 {
-    let a = section::context_at(m, start, Mode::Tolerant);
-    let ContextAnswer::Accepted { pairCount, tail: _ } = a else {
-        return FoundAnswer::Refused(a.refusal());
-    };
-    look_up(m, start + 4, pairCount, key)
+    let pairs = section::context_at(buffer, Mode::Tolerant)?;
+    look_up(buffer.bytes, buffer.start + 4, pairs.value, key)
 }

@@ -1,9 +1,7 @@
 -- What a request's numbers ask for. Assumes nothing.
-use Rattle.std.specs.Prelude.{ℕ, ◌<◌, ◌≡◌, true, cond, eqb}
+use Rattle.std.specs.Prelude.{ℕ, ◌<◌, ◌≡◌, true, cond, eqb, Option, Some, None}
 use Rattle.format.specs.Policies.{lets_read}
 use Rattle.request.specs.Codes.{policy_of}
-use Rattle.request.specs.declared.Max.{Max}
-use Rattle.request.specs.declared.Max.TheVariants.{None, AtMost}
 use Rattle.request.specs.declared.Mode.{Mode}
 use Rattle.request.specs.declared.Mode.TheVariants.{Tolerant, Strict}
 use Rattle.request.specs.declared.Which.{Which}
@@ -21,8 +19,8 @@ abbrev pub mode_asked : ℕ → Mode
 mode_asked n = cond (eqb n 0) Tolerant Strict
 
 -- 0: none; any other: at most that many keys
-abbrev pub max_asked : ℕ → ℕ → Max
-max_asked hasMax max = cond (eqb hasMax 0) None (AtMost max)
+abbrev pub max_asked : ℕ → ℕ → Option ℕ
+max_asked hasMax max = cond (eqb hasMax 0) None (Some max)
 
 -- 0: none; 1: FORBID_ENCRYPT_ALLOW_DECRYPT; 2: REQUIRE_ENCRYPT_ALLOW_DECRYPT; any other: REQUIRE_ENCRYPT_REQUIRE_DECRYPT
 abbrev pub policy_asked : ℕ → Policy

@@ -1,40 +1,36 @@
-// A request in numbers. Every number asks for something.
+// A request in numbers, as C has it. Every number asks for something. These are functions and not `From<u32>`, which would have to stand with
+// the types, in `request`, that knows of no host.
 ghost use Rattle.std.specs.Prelude.{◌≡◌};
 ghost use Rattle.crossing.specs.Asked.{which_asked, mode_asked, max_asked, policy_asked, request_asked};
 
-use request::{Max, Mode, Policy, Request, Which};
+use request::{Mode, Policy, Request, Which};
 
 // 1: version 1 only; 2: version 2 only; any other: either version, whose reader alone tests the frame length.
 fn which_asked(which: u32) -> Which
     ensures { result ≡ which_asked which }
 {
-    if which == 1 {
-        return Which::V1Only;
+    match which {
+        1 => Which::V1Only,
+        2 => Which::V2Only,
+        _ => Which::Either,
     }
-    if which == 2 {
-        return Which::V2Only;
-    }
-    Which::Either
 }
 
 // 0: tolerant; any other: strict, the stricter reading for a number that names no mode.
 fn mode_asked(mode: u32) -> Mode
     ensures { result ≡ mode_asked mode }
 {
-    if mode == 0 {
-        return Mode::Tolerant;
+    match mode {
+        0 => Mode::Tolerant,
+        _ => Mode::Strict,
     }
-    Mode::Strict
 }
 
-// 0: no maximum; any other: at most `max` keys.
-fn max_asked(hasMax: u32, max: u64) -> Max
+// 0: no maximum; any other: at most `max` keys. C has no `Option`.
+fn max_asked(hasMax: u32, max: u64) -> Option<u64>
     ensures { result ≡ max_asked hasMax max }
 {
-    if hasMax == 0 {
-        return Max::None;
-    }
-    Max::AtMost(max)
+    (hasMax != 0).then_some(max)
 }
 
 // 0: none; 1: FORBID_ENCRYPT_ALLOW_DECRYPT; 2: REQUIRE_ENCRYPT_ALLOW_DECRYPT; any other: REQUIRE_ENCRYPT_REQUIRE_DECRYPT, under which least is
@@ -42,16 +38,12 @@ fn max_asked(hasMax: u32, max: u64) -> Max
 pub fn policy_asked(policy: u32) -> Policy
     ensures { result ≡ policy_asked policy }
 {
-    if policy == 0 {
-        return Policy::None;
+    match policy {
+        0 => Policy::None,
+        1 => Policy::ForbidEncryptAllowDecrypt,
+        2 => Policy::RequireEncryptAllowDecrypt,
+        _ => Policy::RequireEncryptRequireDecrypt,
     }
-    if policy == 1 {
-        return Policy::ForbidEncryptAllowDecrypt;
-    }
-    if policy == 2 {
-        return Policy::RequireEncryptAllowDecrypt;
-    }
-    Policy::RequireEncryptRequireDecrypt
 }
 
 pub fn request_asked(which: u32, mode: u32, hasMax: u32, max: u64, policy: u32) -> Request

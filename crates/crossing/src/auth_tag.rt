@@ -1,20 +1,36 @@
-// An authentication record that was read, or its refusal.
+// An authentication record that was read, or its refusal, with a record of 00.
 ghost use Rattle.std.specs.Prelude.{◌≡◌};
 ghost use Rattle.crossing.specs.Records.{auth_fields};
 
 use super::BafirolenAuth;
-use auth::AuthRead;
+use auth::HeaderAuth;
+use suites::Suite;
+use wire::SuccessfulRead;
+use wire::refusals::Refusal;
 
-pub fn auth_record(a: AuthRead) -> BafirolenAuth
-    ensures { result ≡ auth_fields a }
-{
-    let iv = a.iv;
-    let tag = a.tag;
-    BafirolenAuth {
-        number: a.number as u64,
-        position: a.position,
-        tail: a.tail,
-        iv,
-        tag,
+impl From<Result<SuccessfulRead<HeaderAuth>, Refusal>> for BafirolenAuth {
+    ghost from_gives = { λ a r. r ≡ auth_fields a };
+
+    fn from(answer: Result<SuccessfulRead<HeaderAuth>, Refusal>) -> BafirolenAuth {
+        match answer {
+            Ok(SuccessfulRead { value, tail }) => {
+                let HeaderAuth { iv, tag } = value;
+                BafirolenAuth {
+                    number: 0,
+                    position: 0,
+                    tail,
+                    iv,
+                    tag,
+                }
+            }
+            // C's record has both by value, read or not.
+            Err(q) => BafirolenAuth {
+                number: u64::from(q.number),
+                position: q.position,
+                tail: 0,
+                iv: [0; Suite::IV_LEN],
+                tag: [0; Suite::TAG_LEN],
+            },
+        }
     }
 }

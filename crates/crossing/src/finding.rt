@@ -1,35 +1,28 @@
-// Where a value stands, and what its copy answers where there is nothing to copy.
+// Where a value stands.
 ghost use Rattle.std.specs.Prelude.{◌≡◌};
-ghost use Rattle.crossing.specs.Records.{found_fields, nothing_copied};
+ghost use Rattle.crossing.specs.Records.{found_fields};
 
-use super::written::wrote;
-use super::{BafirolenPlace, BafirolenWritten};
-use context::FoundAnswer;
+use super::BafirolenPlace;
+use context::Place;
+use wire::refusals::Refusal;
 
-pub fn place_record(a: FoundAnswer) -> BafirolenPlace
-    ensures { result ≡ found_fields a }
-{
-    match a {
-        FoundAnswer::At { start, len } => BafirolenPlace {
-            number: 0,
-            position: 0,
-            start,
-            len,
-        },
-        FoundAnswer::Refused(q) => BafirolenPlace {
-            number: q.number as u64,
-            position: q.position,
-            start: 0,
-            len: 0,
-        },
-    }
-}
+impl From<Result<Place, Refusal>> for BafirolenPlace {
+    ghost from_gives = { λ a r. r ≡ found_fields a };
 
-pub fn nothing_copied(a: FoundAnswer) -> BafirolenWritten
-    ensures { result ≡ nothing_copied a }
-{
-    match a {
-        FoundAnswer::At { start: _, len: _ } => wrote(0, 0, 0),
-        FoundAnswer::Refused(q) => wrote(q.number, q.position, 0),
+    fn from(answer: Result<Place, Refusal>) -> BafirolenPlace {
+        match answer {
+            Ok(Place { start, len }) => BafirolenPlace {
+                number: 0,
+                position: 0,
+                start,
+                len,
+            },
+            Err(q) => BafirolenPlace {
+                number: u64::from(q.number),
+                position: q.position,
+                start: 0,
+                len: 0,
+            },
+        }
     }
 }

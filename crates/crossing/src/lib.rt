@@ -1,15 +1,16 @@
 // What crosses the boundary to a host: requests in numbers, answers as records. Enums don't cross it: each answer becomes a struct of
-// numbers, by value.
+// numbers, by value, with `From`. The numbers, flags and lengths are C's interface.
 #![tactic(auto)]
 
 pub mod asked;
-pub mod auth_tag;
-pub mod body;
-pub mod finding;
-pub mod sections;
-pub mod written;
+mod auth_tag;
+mod body;
+mod finding;
+mod sections;
+mod written;
 
 use fields::BodyNumbers;
+use suites::Suite;
 
 // A section that was read: how many pairs or keys, and the tail. Number 0: accepted.
 #[repr(C)]
@@ -28,8 +29,8 @@ pub struct BafirolenAuth {
     pub number: u64,
     pub position: u64,
     pub tail: u64,
-    pub iv: [u8; 12],
-    pub tag: [u8; 16],
+    pub iv: [u8; Suite::IV_LEN],
+    pub tag: [u8; Suite::TAG_LEN],
 }
 
 // A body that was read: its numbers with the mark of its form, where its ID and suite data stand, how many pairs and keys, and the

@@ -1,25 +1,25 @@
 // What was written or copied, or what a write takes.
 ghost use Rattle.std.specs.Prelude.{◌≡◌};
-ghost use Rattle.crossing.specs.Records.{wrote, write_fields};
+ghost use Rattle.crossing.specs.Records.{write_fields};
 
 use super::BafirolenWritten;
-use checks::WriteAnswer;
+use wire::refusals::Refusal;
 
-pub fn wrote(number: u8, position: u64, length: u64) -> BafirolenWritten
-    ensures { result ≡ wrote number position length }
-{
-    BafirolenWritten {
-        number: number as u64,
-        position,
-        length,
-    }
-}
+impl From<Result<usize, Refusal>> for BafirolenWritten {
+    ghost from_gives = { λ a r. r ≡ write_fields a };
 
-pub fn written_record(a: WriteAnswer) -> BafirolenWritten
-    ensures { result ≡ write_fields a }
-{
-    match a {
-        WriteAnswer::Written(n) => wrote(0, 0, n as u64),
-        WriteAnswer::Refused(q) => wrote(q.number, q.position, 0),
+    fn from(answer: Result<usize, Refusal>) -> BafirolenWritten {
+        match answer {
+            Ok(length) => BafirolenWritten {
+                number: 0,
+                position: 0,
+                length: length as u64,
+            },
+            Err(q) => BafirolenWritten {
+                number: u64::from(q.number),
+                position: q.position,
+                length: 0,
+            },
+        }
     }
 }

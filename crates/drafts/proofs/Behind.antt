@@ -8,7 +8,7 @@ use lib.Dec.{ltb}
 use borrow.Author.Tests.{le-leb, lt-leb}
 use lib.ListN.{length, take, drop, length-append}
 use lib.Seq.{drop_at, length-take-le}
-use Rattle.format.specs.Read.{accepted, at, operation}
+use Rattle.format.specs.Read.{operation}
 use Rattle.format.specs.Serialize.{write_uint16, images, every}
 use Rattle.format.specs.Utf8.{valid_utf8_seq}
 use Rattle.format.specs.Fields.{EncryptedDataKey, fields_of}
@@ -16,100 +16,85 @@ use Rattle.format.specs.Keys.{write_encrypted_data_key, write_encrypted_data_key
 use Rattle.format.specs.Auth.{zeros}
 use Rattle.format.specs.Checks.{first, has_uint16_len}
 use Rattle.format.specs.Lent.{bytes_at, filled}
-use Rattle.format.specs.Mending.{read_draft, addable, added_image, add_encrypted_data_key, mended}
+use Rattle.format.specs.Mending.{addable, added_image, add_encrypted_data_key, mended}
 use Rattle.format.proofs.Serialize.{length_uint16, images_append}
 use Rattle.format.proofs.Drafts.{section_length, length_keys}
 use Rattle.format.proofs.Mending.{says_16, says_27, says_28, add_said}
 use Rattle.steps.proofs.Numbers.{length_part}
 use Rattle.wire.specs.Codes.{because}
 use Rattle.wire.specs.Stored.{stored}
-use Rattle.wire.specs.declared.Refusal.{Refusal}
+use Rattle.wire.specs.declared.refusals.Refusal.{Refusal}
 use Rattle.wire.proofs.StoreLaws.{length_stored, stored_more}
 use Rattle.moving.proofs.Laws.{bytes_add, stored_before}
-use Rattle.checks.specs.Answers.{checked, written_as}
-use Rattle.checks.specs.declared.Checked.{Checked}
-use Rattle.checks.specs.declared.Checked.TheVariants.{Passes, Fails}
-use Rattle.checks.specs.declared.WriteAnswer.{WriteAnswer}
-use Rattle.checks.specs.declared.WriteAnswer.TheVariants.{Written, Refused}
-use Rattle.drafts.specs.Codes.{Mends, Stands, Short, HasRoom, adding_checks}
-use Rattle.drafts.specs.declared.Draft.{Draft}
-use Rattle.drafts.proofs.Answers.{here, mends_not, mends_so}
+use Rattle.std.specs.Prelude.{Result, Ok, Err}
+use Rattle.checks.specs.Answers.{Checked, checked, written_as}
+use Rattle.body_measure.specs.declared.Measurement.{Measurement}
+use Rattle.drafts.specs.Codes.{Mends, Stands}
+use Rattle.drafts.specs.Adding.{size_of, Short, HasRoom, adding_checks}
+use Rattle.drafts.proofs.Answers.{mends_not, mends_so}
 use Rattle.drafts.proofs.TakenOut.{stored_own, stored_filled}
-use Rattle.drafts.proofs.KeyAdded.{key, key_length, passed, are_short, count_few}
+use Rattle.drafts.proofs.KeyAdded.{key_length, passed, are_short, count_few}
 
 -- THE THREE STORES: what stands behind the keys, the key, the count
-module _ (id info cipher m : List ℕ) (d : Draft) (size : ℕ) (room : HasRoom m d size id info cipher) (m₁ : List ℕ) (e₁ : m₁ ≡ stored m (d.keysEnd + size) (bytes_at m d.keysEnd (d.tail - d.keysEnd))) where
+module _ (k : EncryptedDataKey) (m : List ℕ) (d : Measurement) (room : HasRoom m d k) (size : ℕ) (sized : size ≡ size_of k) (m₁ : List ℕ) (e₁ : m₁ ≡ stored m (d.keysEnd + size) (bytes_at m d.keysEnd (d.tail - d.keysEnd))) where
   abbrev rest : List ℕ
   rest = bytes_at m d.keysEnd (d.tail - d.keysEnd)
-
-  sized : size ≡ 6 + length id + length info + length cipher
-  sized = room.sized
 
   ended : d.keysEnd ≤ d.tail
   ended = room.ended
 
-  fits : d.tail + size ≤ length m
+  fits : d.tail + size_of k ≤ length m
   fits = room.fits
 
   abbrev new : List ℕ
-  new = write_encrypted_data_key (key id info cipher)
+  new = write_encrypted_data_key k
 
   moved_long : length m₁ ≡ length m
   moved_long = let e = ended in let f = fits in let n = length_part m d.keysEnd (d.tail - d.keysEnd) (omega arith) in ap length e₁ ∙ length_stored m (d.keysEnd + size) rest (omega arith)
 
-  pub key_short : Short id info cipher
-  key_short = room.short
-
-  pub key_room : d.keysEnd + (6 + length id + length info + length cipher) ≤ length m₁
-  key_room = let l = moved_long in let e = ended in let f = fits in let s = sized in omega arith
+  pub key_room : d.keysEnd + size_of k ≤ length m₁
+  key_room = let l = moved_long in let e = ended in let f = fits in omega arith
 
   module _ (m₂ : List ℕ) (e₂ : m₂ ≡ stored m₁ d.keysEnd new) where
     both_stored : m₂ ≡ stored m d.keysEnd (new ++ rest)
     both_stored =
-        let n = key_length id info cipher in
-        let s = sized in
+        let n = key_length k in
         let e = ended in
         let f = fits in
         e₂ ∙ ap (λ (l : List ℕ). stored l d.keysEnd new) e₁ ∙ stored_before m d.keysEnd new (d.keysEnd + size) rest (omega arith) (omega arith)
-
-    pub count_room : d.keysStart + 2 ≤ length m₂
-    count_room = let n = key_length id info cipher in let s = sized in let e = ended in let f = fits in let b = room.starts in let l = moved_long in let k = ap length e₂ ∙ length_stored m₁ d.keysEnd new (omega arith) in omega arith
 
     pub put_all : (count : ℕ) (m₃ : List ℕ) → m₃ ≡ stored m₂ d.keysStart (write_uint16 count) → m₃ ≡ stored (stored m d.keysEnd (new ++ rest)) d.keysStart (write_uint16 count)
     put_all count m₃ e₃ = e₃ ∙ ap (λ (l : List ℕ). stored l d.keysStart (write_uint16 count)) both_stored
 
 -- A DRAFT AND A KEY
-module _ (m : List ℕ) (d : Draft) (st : Stands m d) (id info cipher : List ℕ) (c : Checked) (c_is : c ≡ checked (first (adding_checks (key id info cipher) d.keyCount))) where
-  abbrev k : EncryptedDataKey
-  k = key id info cipher
-
+module _ (m : List ℕ) (d : Measurement) (st : Stands m d) (k : EncryptedDataKey) (c : Checked) (c_is : c ≡ checked (first (adding_checks k d.keyCount))) where
   abbrev parts : Bool
-  parts = every has_uint16_len (id ∷ info ∷ cipher ∷ [])
+  parts = every has_uint16_len (k.keyProviderId ∷ k.keyProviderInfo ∷ k.ciphertext ∷ [])
 
-  reads : operation read_draft m 0 ≡ accepted st.body d.tail
-  reads = here read_draft m st.few ∙ st.reads
+  abbrev Adds : List ℕ → Result ℕ Refusal → Type 0
+  Adds = Mends written_as (operation (add_encrypted_data_key k (length m)) m 0) m
 
   addable_is : addable k (length st.body.keys) ≡ addable k d.keyCount
   addable_is = ap (addable k) st.long
 
   -- 16 or 27
-  pub add_refused : (r : Refusal) → c ≡ Fails r → Mends written_as (at (add_encrypted_data_key k (length m)) m 0) m m (Refused r)
+  pub add_refused : (r : Refusal) → c ≡ Err r → Adds m (Err r)
   unfolding first
-  add_refused r e = by (valid_utf8_seq id) refl (parts && ltb d.keyCount 65535) refl (sym c_is ∙ e)
+  add_refused r e = by (valid_utf8_seq k.keyProviderId) refl (parts && ltb d.keyCount 65535) refl (sym c_is ∙ e)
     where
-      by : (a : Bool) → valid_utf8_seq id ≡ a → (b : Bool) → parts && ltb d.keyCount 65535 ≡ b → checked (first (adding_checks k d.keyCount)) ≡ Fails r → Mends written_as (at (add_encrypted_data_key k (length m)) m 0) m m (Refused r)
+      by : (a : Bool) → valid_utf8_seq k.keyProviderId ≡ a → (b : Bool) → parts && ltb d.keyCount 65535 ≡ b → checked (first (adding_checks k d.keyCount)) ≡ Err r → Adds m (Err r)
       by false p b q f =
-          let z : because 16 0 ≡ r = (let y : Fails (because 16 0) ≡ Fails r = rw p at f in cc) in
-          mends_not _ m 16 0 (Refused r) (sym (here (add_encrypted_data_key k (length m)) m st.few) ∙ says_16 m st.body d.tail reads k (length m) p) (ap Refused (sym z))
+          let y : ◌≡◌ {A = Checked} (Err (because 16 0)) (Err r) = rw p at f in
+          mends_not _ m 16 0 r (says_16 m st.body d.tail st.reads k (length m) p) (cc)
       by true p false q f =
-          let z : because 27 0 ≡ r = (let y : Fails (because 27 0) ≡ Fails r = rw (p, q) at f in cc) in
-          mends_not _ m 27 0 (Refused r) (sym (here (add_encrypted_data_key k (length m)) m st.few) ∙ says_27 m st.body d.tail reads k (length m) p (addable_is ∙ q)) (ap Refused (sym z))
-      by true p true q f = let y : Passes ≡ Fails r = rw (p, q) at f in let z : ◌≡◌ {A = ℕ} 0 1 = cc in absurd (omega arith)
+          let y : ◌≡◌ {A = Checked} (Err (because 27 0)) (Err r) = rw (p, q) at f in
+          mends_not _ m 27 0 r (says_27 m st.body d.tail st.reads k (length m) p (addable_is ∙ q)) (cc)
+      by true p true q f = let y : ◌≡◌ {A = Checked} (Ok tt) (Err r) = rw (p, q) at f in let z : ◌≡◌ {A = ℕ} 0 1 = cc in absurd (omega arith)
 
   -- what the tests found
-  module _ (passes : c ≡ Passes) where
-    passes_both : (valid_utf8_seq id ≡ true) × (parts && ltb d.keyCount 65535 ≡ true)
-    passes_both = passed id info cipher d.keyCount c c_is passes
+  module _ (passes : c ≡ Ok tt) where
+    passes_both : (valid_utf8_seq k.keyProviderId ≡ true) × (parts && ltb d.keyCount 65535 ≡ true)
+    passes_both = passed k d.keyCount c c_is passes
 
     keys_start : d.keysStart + 2 ≤ d.keysEnd
     keys_start = let a = st.apart.section in let b = section_length (fields_of st.body).keys in omega arith
@@ -183,31 +168,32 @@ module _ (m : List ℕ) (d : Draft) (st : Stands m d) (id info cipher : List ℕ
         let l = length-take-le d.keysStart m (omega arith) in
         omega arith
 
-    module _ (size : ℕ) (sized : size ≡ 6 + length id + length info + length cipher) where
-      long_by : length (added_image k st.body) ≡ d.tail + size
-      long_by = let a = image_long in let b = key_length id info cipher in omega arith
+    pub new_short : Short k
+    new_short = are_short k d.keyCount c c_is passes
 
-      pub add_28 : length m - d.tail < size → (r : WriteAnswer) → r ≡ Refused (because 28 0) → Mends written_as (at (add_encrypted_data_key k (length m)) m 0) m m r
-      add_28 h r f =
+    module _ (size : ℕ) (sized : size ≡ size_of k) where
+      long_by : length (added_image k st.body) ≡ d.tail + size
+      long_by = let a = image_long in let b = key_length k in omega arith
+
+      pub add_28 : length m - d.tail < size → (q : Refusal) → q ≡ because 28 0 → Adds m (Err q)
+      add_28 h q f =
           let n = long_by in
-          mends_not _ m 28 0 r
-          (sym (here (add_encrypted_data_key k (length m)) m st.few)
-          ∙ says_28 m st.body d.tail reads k (length m) passes_both.0 (addable_is ∙ passes_both.1) (lt-leb (length (added_image k st.body)) (length m) (let w = tail_within in omega arith)))
+          mends_not _ m 28 0 q
+          (says_28 m st.body d.tail st.reads k (length m) passes_both.0 (addable_is ∙ passes_both.1) (lt-leb (length (added_image k st.body)) (length m) (let w = tail_within in omega arith)))
           f
 
       module _ (room : size ≤ length m - d.tail) where
         room_is : d.tail + size ≤ length m
         room_is = let w = tail_within in omega arith
 
-        pub has_room : HasRoom m d size id info cipher
+        pub has_room : HasRoom m d k
         has_room =
             record {
-              short = are_short id info cipher d.keyCount c c_is passes;
-              sized = sized;
+              short = new_short;
               starts = keys_start;
               ended = keys_ended;
-              fits = room_is;
-              few = count_few id info cipher d.keyCount c c_is passes;
+              fits = let r = room_is in omega arith;
+              few = count_few k d.keyCount c c_is passes;
             }
 
         -- the stores are one
@@ -231,11 +217,10 @@ module _ (m : List ℕ) (d : Draft) (st : Stands m d) (id info cipher : List ℕ
             ∙ sym image_is ∙ sym (append-nil (added_image k st.body)))
             ∙ ap (λ (j : ℕ). filled (added_image k st.body ++ zeros j) m) (sym none)
 
-        pub add_whole : (m' : List ℕ) → m' ≡ stored (stored m d.keysEnd (fresh ++ behind)) d.keysStart (write_uint16 (d.keyCount + 1)) → Mends written_as (at (add_encrypted_data_key k (length m)) m 0) m m' (Written (d.tail + size))
+        pub add_whole : (m' : List ℕ) → m' ≡ stored (stored m d.keysEnd (fresh ++ behind)) d.keysStart (write_uint16 (d.keyCount + 1)) → Adds m' (Ok (d.tail + size))
         add_whole m' e =
             let n = long_by in
-            mends_so _ m m' (added_image k st.body) d.tail (Written (d.tail + size))
-            (sym (here (add_encrypted_data_key k (length m)) m st.few)
-            ∙ add_said m st.body d.tail reads k (length m) passes_both.0 (addable_is ∙ passes_both.1) (le-leb (length (added_image k st.body)) (length m) (let w = room_is in omega arith)))
-            (ap Written (sym n))
+            mends_so _ m m' (added_image k st.body) d.tail (d.tail + size)
+            (add_said m st.body d.tail st.reads k (length m) passes_both.0 (addable_is ∙ passes_both.1) (le-leb (length (added_image k st.body)) (length m) (let w = room_is in omega arith)))
+            (sym n)
             (e ∙ longer)

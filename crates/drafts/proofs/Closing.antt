@@ -19,9 +19,8 @@ use Rattle.steps.proofs.Numbers.{length_part}
 use Rattle.wire.specs.Stored.{stored}
 use Rattle.wire.proofs.StoreLaws.{length_stored, drop_stored, stored_none, stored_more}
 use Rattle.entries.proofs.Items.{reach, end_snoc, end_join, here_snoc}
-use Rattle.drafts.specs.Codes.{KeyIs, Passed, left, ClosedUp}
-use Rattle.drafts.specs.declared.KeyAt.{KeyAt}
-use Rattle.drafts.specs.declared.Kept.{Kept}
+use Rattle.drafts.specs.Dropping.{is_provided_by, Passed, left, ClosedUp}
+use Rattle.drafts.specs.declared.dropping.Kept.{Kept}
 use Rattle.drafts.proofs.Walk.{key_back, same_key_end, same_provider}
 
 -- where i of the n keys from first on were passed
@@ -34,15 +33,6 @@ pub record Closing (id m₀ : List ℕ) (first n i s : ℕ) (kept : Kept) (m : L
   pub fewer : kept.count ≤ i
   pub is : m ≡ stored m₀ first (write_encrypted_data_keys (left id m₀ first i))
   pub long : length m ≡ length m₀
-
--- the two ways to pass a key
-module _ (s : ℕ) (key : KeyAt) (kept : Kept) (m : List ℕ) where
-  pub passed_over : key.same ≡ true → Passed s key kept m m kept
-  passed_over e = record { goes = λ f. (refl, refl); stays = λ f. (let z : ◌≡◌ {A = ℕ} 0 1 = cc in absurd (omega arith)) }
-
-  pub passed_kept : key.same ≡ false → (end : ℕ) → end ≡ kept.end + (key.tail - s) → (m' : List ℕ) → m' ≡ stored m kept.end (bytes_at m s (key.tail - s))
-      → Passed s key kept m m' (record { count = kept.count + 1; end = end })
-  passed_kept e end f m' g = record { goes = λ h. (let z : ◌≡◌ {A = ℕ} 0 1 = cc in absurd (omega arith)); stays = λ h. (refl, f, g) }
 
 pub closing_start : (id m₀ : List ℕ) (first n : ℕ) → Closing id m₀ first n 0 first (record { count = 0; end = first }) m₀
 unfolding items_here items_end without_provider write_encrypted_data_keys images
@@ -78,9 +68,6 @@ module _ (id m₀ : List ℕ) (first n : ℕ) (hb : Bytes m₀) (inside : keys_e
       let e : first + length bytes + (s - kept.end) ≡ s = omega arith in
       rw c.is (rw e at (drop_stored m₀ first bytes (s - kept.end) (omega arith)))
 
-  pub key_there : key_end m s ≤ length m
-  key_there = let a = same_key_end m m₀ s rest in let b = next_inside in let l = c.long in omega arith
-
   -- the keys up to the next one
   abbrev next : EncryptedDataKey
   next = key_of (key_here m₀ s)
@@ -95,23 +82,23 @@ module _ (id m₀ : List ℕ) (first n : ℕ) (hb : Bytes m₀) (inside : keys_e
       ∙ of_joined (leaves_out id) (map key_of (keys_here m₀ i first)) (next ∷ [])
       ∙ rw e refl
 
-  module _ (k : KeyAt) (k_is : KeyIs m id s k) where
-    tail_is : k.tail ≡ key_end m₀ s
-    tail_is = k_is.tail ∙ same_key_end m m₀ s rest
+  module _ (tail : ℕ) (is_tail : tail ≡ key_end m s) where
+    tail_is : tail ≡ key_end m₀ s
+    tail_is = is_tail ∙ same_key_end m m₀ s rest
 
-    same_is : same_bytes id next.keyProviderId ≡ k.same
-    same_is = sym (k_is.same ∙ ap (same_bytes id) (same_provider m m₀ s rest))
+    size_is : key_end m s - s ≡ key_end m₀ s - s
+    size_is = ap (λ (t : ℕ). t - s) (same_key_end m m₀ s rest)
 
-    pub key_within : k.tail ≤ length m
+    same_is : (b : Bool) → is_provided_by id m s ≡ b → same_bytes id next.keyProviderId ≡ b
+    same_is b e = sym (ap (same_bytes id) (same_provider m m₀ s rest)) ∙ e
+
+    pub key_within : tail ≤ length m
     key_within = let a = tail_is in let b = next_inside in let l = c.long in omega arith
 
-    pub key_later : s ≤ k.tail
-    key_later = let a = tail_is in omega arith
-
     -- it goes
-    without : k.same ≡ true → Closing id m₀ first n (i + 1) k.tail kept m
+    without : is_provided_by id m s ≡ true → Closing id m₀ first n (i + 1) tail kept m
     without e =
-        let f : left id m₀ first (i + 1) ≡ left id m₀ first i = one_more true (same_is ∙ e) ∙ append-nil (left id m₀ first i) in
+        let f : left id m₀ first (i + 1) ≡ left id m₀ first i = one_more true (same_is true e) ∙ append-nil (left id m₀ first i) in
         let t = tail_is in
         let b = c.before in
         let w = c.fewer in
@@ -127,14 +114,14 @@ module _ (id m₀ : List ℕ) (first n : ℕ) (hb : Bytes m₀) (inside : keys_e
         }
 
     -- it stays
-    with_it : k.same ≡ false → (kept' : Kept) → kept'.count ≡ kept.count + 1 → kept'.end ≡ kept.end + (k.tail - s) → (m' : List ℕ) → m' ≡ stored m kept.end (bytes_at m s (k.tail - s))
-        → Closing id m₀ first n (i + 1) k.tail kept' m'
+    with_it : is_provided_by id m s ≡ false → (kept' : Kept) → kept'.count ≡ kept.count + 1 → kept'.end ≡ kept.end + (key_end m s - s) → (m' : List ℕ) → m' ≡ stored m kept.end (bytes_at m s (key_end m s - s))
+        → Closing id m₀ first n (i + 1) tail kept' m'
     unfolding write_encrypted_data_keys images
     with_it e kept' counted at_end m' moved =
         let was = left id m₀ first i in
-        let f : left id m₀ first (i + 1) ≡ was ++ (next ∷ []) = one_more false (same_is ∙ e) in
+        let f : left id m₀ first (i + 1) ≡ was ++ (next ∷ []) = one_more false (same_is false e) in
         let t = tail_is in
-        let x : k.tail - s ≡ key_end m₀ s - s = omega arith in
+        let x = size_is in
         let fits = next_inside in
         let size = length_part m₀ s (key_end m₀ s - s) (omega arith) in
         let g : write_encrypted_data_keys (left id m₀ first (i + 1)) ≡ write_encrypted_data_keys was ++ bytes_at m₀ s (key_end m₀ s - s) =
@@ -161,15 +148,9 @@ module _ (id m₀ : List ℕ) (first n : ℕ) (hb : Bytes m₀) (inside : keys_e
           long = ap length is' ∙ length_stored m₀ first (write_encrypted_data_keys (left id m₀ first (i + 1))) (omega arith);
         }
 
-    pub closing_step : (kept' : Kept) (m' : List ℕ) → Passed s k kept m m' kept' → Closing id m₀ first n (i + 1) k.tail kept' m'
-    closing_step kept' m' p = by k.same refl
+    pub closing_step : (kept' : Kept) (m' : List ℕ) → Passed id s kept m m' kept' → Closing id m₀ first n (i + 1) tail kept' m'
+    closing_step kept' m' p = by (is_provided_by id m s) refl
       where
-        by : (b : Bool) → k.same ≡ b → Closing id m₀ first n (i + 1) k.tail kept' m'
+        by : (b : Bool) → is_provided_by id m s ≡ b → Closing id m₀ first n (i + 1) tail kept' m'
         by true e = let z = p.goes e in rw (z.0, z.1) (without e)
         by false e = let z = p.stays e in with_it e kept' z.0 z.1 m' z.2
-
-  pub few_kept : n < 65536 → kept.count < 4294967296
-  few_kept h = let w = c.fewer in omega arith
-
-  pub kept_before : kept.end ≤ s
-  kept_before = c.before

@@ -4,8 +4,12 @@ use native.Mathlib.Omega.{arith}
 use mir.Syntax.{w8}
 use mir.Val.{Fits}
 use mathlib.Core.Path.{◌≡◌, refl, sym, ap, subst, ◌∙◌}
+use mathlib.Core.Bool.{true}
 use mathlib.Core.List.{List, map}
 use lib.ListN.{length, get_or}
+use Rattle.std.specs.Prelude.{Result, Ok, Err, None}
+use Rattle.std.specs.Borrow.{Bor}
+use Rattle.format.specs.Read.{accepted, addressable, operation}
 use Rattle.format.specs.Serialize.{Bytes}
 use Rattle.format.specs.Fields.{HeaderBody, fields_of, key_of}
 use Rattle.format.specs.Keys.{no_max}
@@ -15,90 +19,80 @@ use Rattle.format.specs.Mended.{Apart}
 use Rattle.format.specs.Places.{items_end, keys_end}
 use Rattle.format.proofs.Apart.{apart}
 use Rattle.format.proofs.Drafts.{section_length, few_keys}
-use Rattle.wire.specs.Codes.{because}
-use Rattle.wire.specs.declared.Refusal.{Refusal}
+use Rattle.steps.proofs.Operations.{operation_guarded, operation_reached}
+use Rattle.wire.specs.Buffer.{Opens}
+use Rattle.wire.specs.declared.refusals.Refusal.{Refusal}
+use Rattle.wire.specs.declared.buffer.ReadableBuffer.{ReadableBuffer}
 use Rattle.wire.proofs.Answers.{bytes_of}
+use Rattle.wire.proofs.BufferLaws.{why}
 use Rattle.request.specs.declared.Request.{Request}
 use Rattle.request.specs.declared.Which.TheVariants.{Either}
 use Rattle.request.specs.declared.Policy.TheVariants as policy
 use Rattle.request.specs.declared.Mode.TheVariants.{Tolerant}
-use Rattle.request.specs.declared.Max.TheVariants as max
-use Rattle.ends.specs.declared.Opening.{Opening}
-use Rattle.ends.specs.declared.Closing.{Closing}
-use Rattle.body_measure.specs.Codes.{why_measure, Stages, Measured}
-use Rattle.body_measure.specs.declared.MeasureAnswer.{MeasureAnswer}
-use Rattle.body_measure.specs.declared.MeasureAnswer.TheVariants as measure
+use Rattle.body_measure.specs.Codes.{Stages, Measured}
+use Rattle.body_measure.specs.declared.Measurement.{Measurement}
 use Rattle.body_measure.proofs.Stages.{marked_go}
 use Rattle.body_measure.proofs.Parts.{opened, paired, keyed, closed, body, read_whole}
-use Rattle.drafts.specs.Codes.{Stands, why_draft, Found}
-use Rattle.drafts.specs.declared.Draft.{Draft}
-use Rattle.drafts.specs.declared.DraftAnswer.{DraftAnswer}
-use Rattle.drafts.specs.declared.DraftAnswer.TheVariants as draft
-use Rattle.drafts.proofs.Answers.{here}
+use Rattle.drafts.specs.Codes.{Stands, Found}
 
-pub why_draft_is : (x : DraftAnswer) (d : Draft) → x ≡ draft.Is d → (q : Refusal) → q ≡ because 0 0 → q ≡ why_draft x
-why_draft_is x d e q f = f ∙ sym (ap why_draft e)
-
+-- how a draft is read
 abbrev asked : Request
-asked = record { which = Either; policy = policy.None; mode = Tolerant; max = max.None }
+asked = record { which = Either; policy = policy.None; mode = Tolerant; max = None }
 
-module _ (m : List ℕ) (a : MeasureAnswer) where
-  -- what measuring says, of the request that a draft is read by
-  measured : (r : Request) → r ≡ asked → Measured r.policy r.which r.mode r.max m 0 a → Measured policy.None Either Tolerant max.None m 0 a
-  measured r e h = rw e at h
+module _ (m : List ℕ) (x : Measurement) (stages : Stages asked m 0 x) (hb : Bytes m) (few : length m < 4294967296) (guard : addressable m 0 ≡ true) where
+  abbrev b : HeaderBody
+  b = body asked m 0 x stages
 
-  pub found_not : (r : Request) → r ≡ asked → Measured r.policy r.which r.mode r.max m 0 a → (q : Refusal) → a ≡ measure.Not q → (w : Refusal) → w ≡ why_measure a → Found m (draft.Not w)
+  parts : Apart m b x.keysStart x.keysEnd x.tail
+  parts =
+      let o = opened asked m 0 x stages in
+      let p = paired asked m 0 x stages in
+      let k = keyed asked m 0 x stages in
+      let c = closed asked m 0 x stages in
+      apart either m hb o.item x.contextStart o.is _ x.keysStart (marked_go _ m x.contextStart _ x.keysStart p.is) k.items x.keysEnd k.is c.item x.tail c.is
+
+  all_inside : (n : ℕ) → n ≡ x.keyCount → keys_end m n (x.keysStart + 2) ≤ length m
+  unfolding items_end
+  all_inside zero e = let p = parts.section in let l = section_length (fields_of b).keys in let y = parts.ended in let z = parts.within in omega arith
+  all_inside (suc n) e = subst (λ k. keys_end m k (x.keysStart + 2) ≤ length m) (sym e) ((keyed asked m 0 x stages).inside (omega arith))
+
+  said : operation read_draft m 0 ≡ accepted b x.tail
   unfolding read_draft
-  found_not r e h q b w f =
-      let same : w ≡ q = f ∙ ap why_measure b in
+  said = operation_reached read_draft m 0 guard ∙ read_whole asked m 0 x stages no_max no_max refl refl
+
+  standing : Stands m x
+  unfolding fields_of
+  standing =
+      let k = keyed asked m 0 x stages in
       record {
-        refuses = λ q' g. (let z : w ≡ q' = cc in rw (← z, same) ((measured r e h).refuses q b no_max no_max));
-        accepts = λ d g. (let z : ◌≡◌ {A = ℕ} 0 1 = cc in absurd (omega arith));
+        body = b;
+        reads = said;
+        apart = parts;
+        are = ap (map key_of) k.are;
+        long = k.long;
+        inside = all_inside x.keyCount refl;
+        bytes = hb;
+        counted = rw (← k.long) (few_keys m hb b x.tail said);
+        few = few;
       }
 
-  module _ (o : Opening) (first np second nk third : ℕ) (c : Closing) (tail : ℕ) (stages : Stages policy.None Either Tolerant max.None m 0 o first np second nk third c tail) (hb : Bytes m) (few : length m < 4294967296) where
-    abbrev b : HeaderBody
-    b = body policy.None Either Tolerant max.None m 0 o first np second nk third c tail stages
+-- a buffer that is opened, and measured
+module _ (m : Bor (List ℕ)) (y : Result ReadableBuffer Refusal) (opens : Opens m 0 y) where
+  pub found_not : (q : Refusal) → y ≡ Err q → Found m.now (Err q)
+  found_not q e =
+      let (f, g) = why m 0 y opens q e in
+      record {
+        refuses = λ q' h. (let z : q ≡ q' = cc in rw (← z, f) (operation_guarded read_draft m.now 0 g));
+        accepts = λ d h. (let z : ◌≡◌ {A = ℕ} 0 1 = cc in absurd (omega arith));
+      }
 
-    parts : Apart m b second third tail
-    parts =
-        apart either m hb
-        (opened policy.None Either Tolerant max.None m 0 o first np second nk third c tail stages).item first (opened policy.None Either Tolerant max.None m 0 o first np second nk third c tail stages).is
-        _ second (marked_go _ m first _ second (paired policy.None Either Tolerant max.None m 0 o first np second nk third c tail stages).is)
-        (keyed policy.None Either Tolerant max.None m 0 o first np second nk third c tail stages).items third (keyed policy.None Either Tolerant max.None m 0 o first np second nk third c tail stages).is
-        (closed policy.None Either Tolerant max.None m 0 o first np second nk third c tail stages).item tail (closed policy.None Either Tolerant max.None m 0 o first np second nk third c tail stages).is
-
-    all_inside : (n : ℕ) → n ≡ nk → keys_end m n (second + 2) ≤ length m
-    unfolding items_end
-    all_inside zero e = let p = parts.section in let l = section_length (fields_of b).keys in let x = parts.ended in let y = parts.within in omega arith
-    all_inside (suc n) e =
-        subst (λ k. keys_end m k (second + 2) ≤ length m) (sym e) ((keyed policy.None Either Tolerant max.None m 0 o first np second nk third c tail stages).inside (omega arith))
-
-    standing : Stands m (record { keysStart = second; keyCount = nk; keysEnd = third; tail = tail })
-    unfolding read_draft fields_of
-    standing =
+  module _ (buffer : ReadableBuffer) (e : y ≡ Ok buffer) (r : Request) (rIs : r ≡ asked) (bytes : (i : ℕ) → Fits w8 (get_or m.now i 0)) (a : Result Measurement Refusal) where
+    pub found_is : Measured r buffer.bytes.now buffer.start a → Found m.now a
+    unfolding read_draft
+    found_is h =
+        let (same, front, guard) : Opens m 0 (Ok buffer) = rw e at opens in
+        let measured : Measured asked m.now 0 a = rw (rIs, same, front) at h in
         record {
-          body = b;
-          reads = read_whole policy.None Either Tolerant max.None m 0 o first np second nk third c tail stages no_max no_max refl refl;
-          apart = parts;
-          are = ap (map key_of) (keyed policy.None Either Tolerant max.None m 0 o first np second nk third c tail stages).are;
-          long = (keyed policy.None Either Tolerant max.None m 0 o first np second nk third c tail stages).long;
-          inside = all_inside nk refl;
-          bytes = hb;
-          counted = rw (← (keyed policy.None Either Tolerant max.None m 0 o first np second nk third c tail stages).long) (few_keys m hb b tail (here read_draft m few ∙ read_whole policy.None Either Tolerant max.None m 0 o first np second nk third c tail stages no_max no_max refl refl));
-          few = few;
+          refuses = λ q f. operation_reached read_draft m.now 0 guard ∙ measured.refuses q f no_max no_max;
+          accepts = λ d f. standing m.now d (measured.accepts d f) (bytes_of m.now bytes) (rw same at buffer.small) guard;
         }
-
-  pub found_is : (r : Request) → r ≡ asked → Measured r.policy r.which r.mode r.max m 0 a → ((i : ℕ) → Fits w8 (get_or m i 0)) → length m < 4294967296
-      → (o : Opening) (first np second nk third : ℕ) (c : Closing) (tail : ℕ) → a ≡ measure.Is o first np second nk third c tail
-      → Found m (draft.Is (record { keysStart = second; keyCount = nk; keysEnd = third; tail = tail }))
-  found_is r e h bytes few o first np second nk third c tail f =
-      record {
-        refuses = λ q g. (let z : ◌≡◌ {A = ℕ} 0 1 = cc in absurd (omega arith));
-        accepts = λ d g.
-            (let z : record { keysStart = second; keyCount = nk; keysEnd = third; tail = tail } ≡ d = cc in
-            rw (← z) (standing o first np second nk third c tail ((measured r e h).accepts o first np second nk third c tail f) (bytes_of m bytes) few));
-      }
-
-pub found_stands : (m : List ℕ) (a : DraftAnswer) → Found m a → (d : Draft) → a ≡ draft.Is d → Stands m d
-found_stands m a h d e = h.accepts d e

@@ -1,7 +1,7 @@
 pub mod Answers
-pub mod Found
 pub mod Walk
+pub mod Found
+pub mod KeyAdded
 pub mod Closing
 pub mod TakenOut
-pub mod KeyAdded
 pub mod Behind

@@ -7,13 +7,13 @@ use mathlib.Core.List.{List, [], ◌∷◌, ◌++◌, append_assoc}
 use borrow.Author.Tests.{ne_eqb}
 use lib.ListN.{length, take, drop, length-append, take-append-drop}
 use lib.Seq.{drop-drop, length-take-le}
-use Rattle.format.specs.Read.{accepted, at}
+use Rattle.format.specs.Read.{operation}
 use Rattle.format.specs.Serialize.{write_uint16, images}
 use Rattle.format.specs.Fields.{EncryptedDataKey, fields_of}
 use Rattle.format.specs.Keys.{write_encrypted_data_keys, write_encrypted_data_keys_section}
 use Rattle.format.specs.Auth.{zeros}
 use Rattle.format.specs.Lent.{bytes_at, filled}
-use Rattle.format.specs.Mending.{read_draft, without_provider, dropped_image, drop_encrypted_data_keys, mended}
+use Rattle.format.specs.Mending.{without_provider, dropped_image, drop_encrypted_data_keys, mended}
 use Rattle.format.proofs.Serialize.{length_uint16}
 use Rattle.format.proofs.TakenOut.{taken_out, fewer, shorter}
 use Rattle.format.proofs.Drafts.{section_length, length_keys}
@@ -24,12 +24,13 @@ use Rattle.wire.specs.Stored.{stored}
 use Rattle.wire.proofs.StoreLaws.{length_stored, drop_stored, stored_none, stored_more}
 use Rattle.moving.proofs.Laws.{stored_before}
 use Rattle.checks.specs.Answers.{written_as}
-use Rattle.checks.specs.declared.WriteAnswer.{WriteAnswer}
-use Rattle.checks.specs.declared.WriteAnswer.TheVariants.{Written, Refused}
-use Rattle.drafts.specs.Codes.{Mends, Stands, left, ClosedUp}
-use Rattle.drafts.specs.declared.Draft.{Draft}
-use Rattle.drafts.specs.declared.Kept.{Kept}
-use Rattle.drafts.proofs.Answers.{here, mends_not, mends_so}
+use Rattle.std.specs.Prelude.{Ok, Err}
+use Rattle.wire.specs.declared.refusals.Refusal.{Refusal}
+use Rattle.body_measure.specs.declared.Measurement.{Measurement}
+use Rattle.drafts.specs.Codes.{Mends, Stands}
+use Rattle.drafts.specs.Dropping.{left, ClosedUp}
+use Rattle.drafts.specs.declared.dropping.Kept.{Kept}
+use Rattle.drafts.proofs.Answers.{mends_not, mends_so}
 
 -- what stands at a place, stored there again
 pub stored_own : (m : List ℕ) (s n : ℕ) → s + n ≤ length m → m ≡ stored m s (bytes_at m s n)
@@ -71,7 +72,7 @@ closed m m₁ m₂ m₃ start end third tail tail' count a b c d e f g h =
     ∙ ap (λ (y : List ℕ). stored y end (bytes_at m third (tail - third) ++ zeros (third - end))) e
 
 -- A DRAFT WHOSE KEYS CLOSED UP
-module _ (m : List ℕ) (d : Draft) (st : Stands m d) (id m₁ : List ℕ) (kept : Kept) (up : ClosedUp id m (d.keysStart + 2) d.keyCount m₁ kept) where
+module _ (m : List ℕ) (d : Measurement) (st : Stands m d) (id m₁ : List ℕ) (kept : Kept) (up : ClosedUp id m (d.keysStart + 2) d.keyCount m₁ kept) where
   abbrev ks : List EncryptedDataKey
   ks = without_provider id (fields_of st.body).keys
 
@@ -113,32 +114,17 @@ module _ (m : List ℕ) (d : Draft) (st : Stands m d) (id m₁ : List ℕ) (kept
       let f = st.long in
       omega arith
 
-  pub section_ends : d.keysEnd ≤ d.tail
-  section_ends = st.apart.ended
-
-  pub tail_fits : d.tail ≤ length m₁
-  tail_fits =
-      let a = st.apart.within in
-      let b = room in
-      let c = st.apart.ended in
-      let e = ap length buffer ∙ length_stored m (d.keysStart + 2) bytes (omega arith) in
-      omega arith
-
   empty : (l : List EncryptedDataKey) → length l ≡ 0 → l ≡ []
   empty [] e = refl
   empty (k ∷ l) e = absurd (omega arith)
 
-  said : at read_draft m 0 ≡ accepted st.body d.tail
-  said = st.reads
-
-  pub out_40 : kept.count ≡ 0 → (r : WriteAnswer) → r ≡ Refused (because 40 0) → Mends written_as (at (drop_encrypted_data_keys id) m 0) m m₁ r
+  pub out_40 : kept.count ≡ 0 → (q : Refusal) → q ≡ because 40 0 → Mends written_as (operation (drop_encrypted_data_keys id) m 0) m m₁ (Err q)
   unfolding write_encrypted_data_keys images
-  out_40 z r f =
+  out_40 z q f =
       let none : ks ≡ [] = empty ks (sym counted ∙ z) in
       let same : m₁ ≡ m = buffer ∙ ap (λ (l : List EncryptedDataKey). stored m (d.keysStart + 2) (write_encrypted_data_keys l)) none ∙ sym (stored_none m (d.keysStart + 2)) in
       rw same
-      (mends_not (at (drop_encrypted_data_keys id) m 0) m 40 0 r
-      (sym (here (drop_encrypted_data_keys id) m st.few) ∙ says_40 m st.body d.tail (here read_draft m st.few ∙ said) id none) f)
+      (mends_not (operation (drop_encrypted_data_keys id) m 0) m 40 0 q (says_40 m st.body d.tail st.reads id none) f)
 
   module _ (some : kept.count ≡ 0 → ⊥) where
     abbrev section : List ℕ
@@ -198,10 +184,9 @@ module _ (m : List ℕ) (d : Draft) (st : Stands m d) (id m₁ : List ℕ) (kept
         ∙ ap (λ (l : List ℕ). filled (dropped_image id st.body ++ l) m) free_is
 
     pub out_whole : (m₂ : List ℕ) → m₂ ≡ stored (stored m₁ d.keysStart (write_uint16 kept.count)) kept.end (bytes_at m₁ d.keysEnd (d.tail - d.keysEnd) ++ zeros (d.keysEnd - kept.end))
-        → (tail : ℕ) → tail ≡ kept.end + (d.tail - d.keysEnd) → Mends written_as (at (drop_encrypted_data_keys id) m 0) m m₂ (Written tail)
+        → (tail : ℕ) → tail ≡ kept.end + (d.tail - d.keysEnd) → Mends written_as (operation (drop_encrypted_data_keys id) m 0) m m₂ (Ok tail)
     out_whole m₂ e tail f =
-        mends_so (at (drop_encrypted_data_keys id) m 0) m m₂ (dropped_image id st.body) d.tail (Written tail)
-        (sym (here (drop_encrypted_data_keys id) m st.few)
-        ∙ drop_said m st.body d.tail (here read_draft m st.few ∙ said) id (ap not (ne_eqb (length ks) 0 (λ z. some (counted ∙ z)))))
-        (ap Written (f ∙ sym image_long))
+        mends_so (operation (drop_encrypted_data_keys id) m 0) m m₂ (dropped_image id st.body) d.tail tail
+        (drop_said m st.body d.tail st.reads id (ap not (ne_eqb (length ks) 0 (λ z. some (counted ∙ z)))))
+        (f ∙ sym image_long)
         (whole m₂ e)

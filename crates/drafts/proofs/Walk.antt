@@ -3,21 +3,17 @@
 use Prim.Native.Nat.{ℕ, zero, suc, ◌+◌, ◌-◌, ◌/◌, ◌%◌, ◌≤◌, ◌<◌}
 use native.Mathlib.Omega.{arith}
 use mathlib.Core.Path.{◌≡◌, refl, sym, ap, ◌∙◌}
-use mathlib.Core.Bool.{Bool}
 use mathlib.Core.List.{List, [], ◌∷◌, ◌++◌}
-use lib.ListN.{length, get_or, take, drop}
+use lib.ListN.{length, get_or, drop}
 use lib.Seq.{drop-cons, drop-drop, get_or-drop}
-use Rattle.format.specs.Serialize.{Bytes, write_uint16, write_short_length_seq, same_bytes}
+use Rattle.format.specs.Serialize.{Bytes, write_uint16, write_short_length_seq}
 use Rattle.format.specs.Fields.{key_of}
 use Rattle.format.specs.Keys.{write_encrypted_data_key}
 use Rattle.format.specs.Lent.{bytes_at}
 use Rattle.format.specs.Places.{number16, entry_here, entry_end, key_here, key_end}
 use Rattle.steps.proofs.Numbers.{length_part}
 use Rattle.wire.proofs.StoreLaws.{two_bytes}
-use Rattle.entries.specs.Codes.{EntryIs}
-use Rattle.entries.specs.declared.Entry.{Entry}
 use Rattle.moving.proofs.Laws.{bytes_add}
-use Rattle.drafts.specs.Codes.{KeyIs}
 
 byte_small : (m : List ℕ) → Bytes m → (i : ℕ) → get_or m i 0 < 256
 byte_small [] h i = omega arith
@@ -82,20 +78,3 @@ module _ (m m₀ : List ℕ) (s : ℕ) (e : drop s m ≡ drop s m₀) where
 
   pub same_provider : (key_here m s).keyProviderId.bytes ≡ (key_here m₀ s).keyProviderId.bytes
   same_provider = rw (same_number s (omega arith), ← drop-drop 2 s m, ← drop-drop 2 s m₀, e) refl
-
--- THE KEY AT A PLACE, by its three entries
-module _ (m : List ℕ) (s : ℕ) (h : key_end m s ≤ length m) (p : Entry) (p_is : EntryIs m s p) where
-  pub info_there : entry_end m p.tail ≤ length m
-  info_there = rw p_is.ends (omega arith)
-
-  pub provider_there : p.start + p.len ≤ length m
-  provider_there = p_is.within
-
-  module _ (i : Entry) (i_is : EntryIs m p.tail i) where
-    pub cipher_there : entry_end m i.tail ≤ length m
-    cipher_there = rw (i_is.ends, p_is.ends) h
-
-    pub key_is : (id : List ℕ) (c : Entry) → EntryIs m i.tail c → (same : Bool) → same ≡ same_bytes id (take (p.start + p.len - p.start) (drop p.start m)) → KeyIs m id s (record { same = same; tail = c.tail })
-    key_is id c c_is same e =
-        let n : p.start + p.len - p.start ≡ p.len = omega arith in
-        record { same = e ∙ rw (n, p_is.size, p_is.starts) refl; tail = c_is.ends ∙ rw (i_is.ends, p_is.ends) refl }

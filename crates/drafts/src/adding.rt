@@ -1,6 +1,6 @@
-// Adding a key: what stands behind the keys moves up, the last byte first, and the key is written in front of it.
+// Adding a key: what stands behind the keys moves up, and the key is written in front of it.
 ghost use Rattle.std.specs.Prelude.{◌≡◌, [], ◌∷◌, ◌++◌, ◌+◌, ◌-◌, ◌≤◌, ◌<◌, length};
-ghost use Rattle.format.specs.Read.{at};
+ghost use Rattle.format.specs.Read.{operation};
 ghost use Rattle.format.specs.Serialize.{write_uint16, write_short_length_seq, every};
 ghost use Rattle.format.specs.Keys.{write_encrypted_data_key};
 ghost use Rattle.format.specs.Checks.{first, has_uint16_len};
@@ -8,111 +8,90 @@ ghost use Rattle.format.specs.Lent.{bytes_at};
 ghost use Rattle.format.specs.Mending.{add_encrypted_data_key};
 ghost use Rattle.wire.specs.Stored.{stored};
 ghost use Rattle.checks.specs.Answers.{checked, written_as};
-ghost use Rattle.drafts.specs.Codes.{Mends, Stands, Short, HasRoom, adding_checks};
+ghost use Rattle.drafts.specs.Codes.{Mends, Stands};
+ghost use Rattle.drafts.specs.Adding.{parts_of, key_of, size_of, Short, HasRoom, adding_checks};
 
-use super::{Draft, DraftAnswer, read_draft};
-use checks::{Checked, WriteAnswer, fails, refuses};
-use moving::move_up;
+use body_measure::Measurement;
+use moving::move_bytes;
 use utf8::part_is_utf8;
-use wire::refusals::{COUNT_OR_PART_TOO_LONG, OUTPUT_TOO_SHORT, PROVIDER_ID_NOT_UTF8};
-use wire::writing::{write_short_length_seq, write_uint16};
+use wire::refusals::{Reason, Refusal};
+use wire::writing::{put_entry, write_uint16};
 
-// Each part has at most 65,535 bytes.
-fn are_short(id: &[u8], info: &[u8], cipher: &[u8]) -> bool
-    ensures { result ≡ every has_uint16_len (id.now ∷ info.now ∷ cipher.now ∷ []) }
-{
-    if id.len() > 65535 {
-        return false;
-    }
-    if info.len() > 65535 {
-        return false;
-    }
-    if cipher.len() > 65535 {
-        return false;
-    }
-    true
+// A key that is to be added.
+#[derive(Clone, Copy)]
+pub(crate) struct EncryptedDataKey<'a> {
+    pub(crate) keyProviderId: &'a [u8],
+    pub(crate) keyProviderInfo: &'a [u8],
+    pub(crate) ciphertext: &'a [u8],
 }
 
-// 16, then 27, where so many keys are there already.
-fn check_key(id: &[u8], info: &[u8], cipher: &[u8], keyCount: u64) -> Checked
-    ensures { result ≡ checked (first (adding_checks (record { keyProviderId = id.now; keyProviderInfo = info.now; ciphertext = cipher.now }) keyCount)) }
-{
-    if part_is_utf8(id, 0, id.len() as u64) {
-        if are_short(id, info, cipher) {
-            if keyCount < 65535 {
-                return Checked::Passes;
-            }
-            return fails(COUNT_OR_PART_TOO_LONG);
+impl EncryptedDataKey<'_> {
+    // Each part has at most 65,535 bytes.
+    fn is_short(&self) -> bool
+        ensures { result ≡ every has_uint16_len (parts_of self.now) }
+    {
+        self.keyProviderId.len() <= 65535
+            && self.keyProviderInfo.len() <= 65535
+            && self.ciphertext.len() <= 65535
+    }
+
+    // 16, then 27, where so many keys are there already.
+    fn check(&self, keyCount: u64) -> Result<(), Refusal>
+        ensures { result ≡ checked (first (adding_checks (key_of self.now) keyCount)) }
+    {
+        if !part_is_utf8(self.keyProviderId, 0, self.keyProviderId.len() as u64) {
+            return Err(Reason::ProviderIdNotUtf8.into());
         }
-        return fails(COUNT_OR_PART_TOO_LONG);
+        if !self.is_short() {
+            return Err(Reason::CountOrPartTooLong.into());
+        }
+        if 65535 <= keyCount {
+            return Err(Reason::CountOrPartTooLong.into());
+        }
+        Ok(())
     }
-    fails(PROVIDER_ID_NOT_UTF8)
-}
 
-// WriteShortLengthSeq of a part, whole; gives the place behind it.
-fn put_part(m: &mut [u8], at: usize, part: &[u8]) -> usize
-    requires { (length part.now < 65536) × (at + 2 + length part.now ≤ length m.old) }
-    ensures { (result ≡ at + 2 + length part.now) × (m.new ≡ stored m.old at (write_short_length_seq part.now)) × (length m.new ≡ length m.old) }
-{
-    write_short_length_seq(part, 0, part.len(), m, at);
-    at + 2 + part.len()
-}
-
-// WriteEncryptedDataKey: the three entries from `at` on.
-fn put_key(m: &mut [u8], at: usize, id: &[u8], info: &[u8], cipher: &[u8])
-    requires { Short id.now info.now cipher.now × (at + (6 + length id.now + length info.now + length cipher.now) ≤ length m.old) }
-    ensures { m.new ≡ stored m.old at (write_encrypted_data_key (record { keyProviderId = id.now; keyProviderInfo = info.now; ciphertext = cipher.now })) }
-{
-    let second = put_part(m, at, id);
-    let third = put_part(m, second, info);
-    put_part(m, third, cipher);
-}
-
-// What a key takes.
-fn key_size(id: &[u8], info: &[u8], cipher: &[u8]) -> u64
-    requires { Short id.now info.now cipher.now }
-    ensures { result ≡ 6 + length id.now + length info.now + length cipher.now }
-{
-    6 + id.len() as u64 + info.len() as u64 + cipher.len() as u64
-}
-
-// Of a draft that stands at the front, with its key section and room behind it: the new key behind the others, and the count.
-fn put_behind(m: &mut [u8], draft: Draft, size: u64, id: &[u8], info: &[u8], cipher: &[u8])
-    requires { HasRoom m.old draft size id.now info.now cipher.now }
-    ensures { m.new ≡ stored (stored m.old draft.keysEnd (write_encrypted_data_key (record { keyProviderId = id.now; keyProviderInfo = info.now; ciphertext = cipher.now }) ++ bytes_at m.old draft.keysEnd (draft.tail - draft.keysEnd))) draft.keysStart (write_uint16 (draft.keyCount + 1)) }
-{
-    let from = draft.keysEnd as usize;
-    let to = (draft.keysEnd + size) as usize;
-    let len = (draft.tail - draft.keysEnd) as usize;
-    move_up(m, from, to, len);
-    put_key(m, from, id, info, cipher);
-    write_uint16(m, draft.keysStart as usize, (draft.keyCount + 1) as u16);
-}
-
-// Of a draft that stands at the front: 16, 27, and 28 where the longer one exceeds the buffer.
-fn add_behind(m: &mut [u8], draft: Draft, id: &[u8], info: &[u8], cipher: &[u8]) -> WriteAnswer
-    requires { Stands m.old draft }
-    ensures { Mends written_as (at (add_encrypted_data_key (record { keyProviderId = id.now; keyProviderInfo = info.now; ciphertext = cipher.now }) (length m.old)) m.old 0) m.old m.new result }
-{
-    let c = check_key(id, info, cipher, draft.keyCount);
-    if let Checked::Fails(r) = c {
-        return WriteAnswer::Refused(r);
+    // What it takes.
+    fn size(&self) -> u64
+        requires { Short (key_of self.now) }
+        ensures { result ≡ size_of (key_of self.now) }
+    {
+        6 + (self.keyProviderId.len() + self.keyProviderInfo.len() + self.ciphertext.len()) as u64
     }
-    let size = key_size(id, info, cipher);
-    if (m.len() as u64) - draft.tail < size {
-        return refuses(OUTPUT_TOO_SHORT);
-    }
-    put_behind(m, draft, size, id, info, cipher);
-    WriteAnswer::Written((draft.tail + size) as usize)
-}
 
-pub(crate) fn add_here(m: &mut [u8], id: &[u8], info: &[u8], cipher: &[u8]) -> WriteAnswer
-    requires { length m.old < 4294967296 }
-    ensures { Mends written_as (at (add_encrypted_data_key (record { keyProviderId = id.now; keyProviderInfo = info.now; ciphertext = cipher.now }) (length m.old)) m.old 0) m.old m.new result }
-{
-    let a = read_draft(m);
-    let DraftAnswer::Is(draft) = a else {
-        return WriteAnswer::Refused(a.refusal());
-    };
-    add_behind(m, draft, id, info, cipher)
+    // WriteEncryptedDataKey: the three entries from `at` on.
+    fn put(&self, m: &mut [u8], at: usize)
+        requires { Short (key_of self.now) × (at + size_of (key_of self.now) ≤ length m.old) }
+        ensures { m.new ≡ stored m.old at (write_encrypted_data_key (key_of self.now)) }
+    {
+        let second = put_entry(self.keyProviderId, m, at);
+        let third = put_entry(self.keyProviderInfo, m, second);
+        put_entry(self.ciphertext, m, third);
+    }
+
+    // In a draft that stands at the front, with room behind it: the new key behind the others, and the count.
+    fn put_behind(&self, m: &mut [u8], draft: Measurement)
+        requires { HasRoom m.old draft (key_of self.now) }
+        ensures { m.new ≡ stored (stored m.old draft.keysEnd (write_encrypted_data_key (key_of self.now) ++ bytes_at m.old draft.keysEnd (draft.tail - draft.keysEnd))) draft.keysStart (write_uint16 (draft.keyCount + 1)) }
+    {
+        let from = draft.keysEnd as usize;
+        let to = (draft.keysEnd + self.size()) as usize;
+        move_bytes(m, from, to, (draft.tail - draft.keysEnd) as usize);
+        self.put(m, from);
+        write_uint16(m, draft.keysStart as usize, (draft.keyCount + 1) as u16);
+    }
+
+    // To a draft that stands at the front: 16, 27, and 28 where the longer one exceeds the buffer.
+    pub(crate) fn add(&self, m: &mut [u8], draft: Measurement) -> Result<usize, Refusal>
+        requires { Stands m.old draft }
+        ensures { Mends written_as (operation (add_encrypted_data_key (key_of self.now) (length m.old)) m.old 0) m.old m.new result }
+    {
+        self.check(draft.keyCount)?;
+        let size = self.size();
+        if (m.len() as u64) - draft.tail < size {
+            return Err(Reason::OutputTooShort.into());
+        }
+        self.put_behind(m, draft);
+        Ok((draft.tail + size) as usize)
+    }
 }

@@ -6,13 +6,13 @@ use mathlib.Core.List.{List}
 use native.Mathlib.Omega.{arith}
 use lib.ListN.{length}
 use Rattle.format.specs.Read.{Reader, ◌>>=◌, accepted, at}
-use Rattle.format.specs.Serialize.{read_uint8, read_uint16, read_uint32}
+use Rattle.format.specs.Serialize.{read_uint8}
 use Rattle.format.specs.Shared.{read_message_format_version, read_esdk_suite_id, read_content_type}
 use Rattle.format.specs.Policies.{Policy}
 use Rattle.format.specs.Body.{Which, Lead, read_lead_of, read_lead, after_lead, read_opening, read_closing_of, read_closing}
 use Rattle.steps.proofs.Tidy.{Tidy, tidy}
 use Rattle.steps.proofs.Steps.{un_bind, inside}
-use Rattle.steps.proofs.Numbers.{uint8_known, uint16_known, uint32_known}
+use Rattle.steps.proofs.Numbers.{uint8_known}
 
 pub version_tidy : Tidy read_message_format_version
 unfolding read_message_format_version
@@ -63,19 +63,9 @@ bind_within {f = f} hr wr hf =
 pub uint8_within : Within read_uint8
 uint8_within = record { ends = λ m s v t e. let y = uint8_known m s v t e in omega arith }
 
-pub uint16_within : Within read_uint16
-uint16_within = record { ends = λ m s v t e. let y = uint16_known m s v t e in omega arith }
-
-pub uint32_within : Within read_uint32
-uint32_within = record { ends = λ m s v t e. let y = uint32_known m s v t e in omega arith }
-
 pub version_within : Within read_message_format_version
 unfolding read_message_format_version
 version_within = search (bind_within, uint8_within, tidy) depth 20
-
-pub suite_within : (version : ℕ) → Within (read_esdk_suite_id version)
-unfolding read_esdk_suite_id
-suite_within version = search (bind_within, uint16_within, tidy) depth 20
 
 pub content_within : Within read_content_type
 unfolding read_content_type
@@ -88,7 +78,3 @@ lead_within which = search (bind_within, version_within, version_tidy, lead_of_t
 pub opening_within : (which : Which) (policy : Policy) → Within (read_opening which policy)
 unfolding read_opening
 opening_within which policy = search (bind_within, lead_within, lead_tidy, after_lead_tidy, tidy) depth 20
-
-pub closing_within : (v1 : Bool) → Within (read_closing v1)
-unfolding read_closing
-closing_within v1 = search (bind_within, content_within, content_tidy, closing_of_tidy, tidy) depth 20

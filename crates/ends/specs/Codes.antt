@@ -1,20 +1,15 @@
 -- The code's answers, of what a reader answers; and the readers that the code shares between two of the format's. Assumes nothing.
-use Rattle.std.specs.Prelude.{ℕ, length}
-use Rattle.format.specs.Read.{Reader, ◌>>=◌, ◌>>◌, return, test, Answer, accepted, refused}
+use Rattle.std.specs.Prelude.{ℕ, length, Result}
+use Rattle.format.specs.Read.{Reader, ◌>>=◌, ◌>>◌, return, test, Answer}
 use Rattle.format.specs.Serialize.{read_uint8}
 use Rattle.format.specs.Shared.{one_or_two, read_esdk_suite_id}
 use Rattle.format.specs.Body.{Lead as LeadRead, Opening as OpeningRead, Closing as ClosingRead}
-use Rattle.wire.specs.Codes.{because}
-use Rattle.wire.specs.declared.Refusal.{Refusal}
+use Rattle.wire.specs.Codes.{read_of}
+use Rattle.wire.specs.declared.refusals.Refusal.{Refusal}
+use Rattle.wire.specs.declared.SuccessfulRead.{SuccessfulRead}
 use Rattle.ends.specs.declared.Lead.{Lead}
-use Rattle.ends.specs.declared.LeadAnswer.{LeadAnswer}
-use Rattle.ends.specs.declared.LeadAnswer.TheVariants as lead
 use Rattle.ends.specs.declared.Opening.{Opening}
-use Rattle.ends.specs.declared.OpeningAnswer.{OpeningAnswer}
-use Rattle.ends.specs.declared.OpeningAnswer.TheVariants as opening
 use Rattle.ends.specs.declared.Closing.{Closing}
-use Rattle.ends.specs.declared.ClosingAnswer.{ClosingAnswer}
-use Rattle.ends.specs.declared.ClosingAnswer.TheVariants as closing
 
 -- a byte that is 01 or 02, else refusal k: the version, and the content type
 unfoldable pub read_one_or_two : ℕ → Reader ℕ
@@ -32,9 +27,8 @@ read_suite version messageType = do
 abbrev pub lead_code : LeadRead → Lead
 lead_code l = record { version = l.version; messageType = l.messageType; suite = l.suite }
 
-abbrev pub lead_of : Answer LeadRead → LeadAnswer
-lead_of (accepted l t) = lead.Is (lead_code l) t
-lead_of (refused k p) = lead.Not (because k p)
+abbrev pub lead_of : Answer LeadRead → Result (SuccessfulRead Lead) Refusal
+lead_of = read_of lead_code
 
 abbrev pub opening_code : OpeningRead → Opening
 opening_code o =
@@ -46,9 +40,8 @@ opening_code o =
       messageIdLen = length o.messageId.bytes;
     }
 
-abbrev pub opening_of : Answer OpeningRead → OpeningAnswer
-opening_of (accepted o t) = opening.Is (opening_code o) t
-opening_of (refused k p) = opening.Not (because k p)
+abbrev pub opening_of : Answer OpeningRead → Result (SuccessfulRead Opening) Refusal
+opening_of = read_of opening_code
 
 abbrev pub closing_code : ClosingRead → Closing
 closing_code c =
@@ -60,19 +53,5 @@ closing_code c =
       suiteDataLen = length c.suiteData.bytes;
     }
 
-abbrev pub closing_of : Answer ClosingRead → ClosingAnswer
-closing_of (accepted c t) = closing.Is (closing_code c) t
-closing_of (refused k p) = closing.Not (because k p)
-
--- the refusal that an answer carries; 0 where it is none
-abbrev pub why_lead : LeadAnswer → Refusal
-why_lead (lead.Is l t) = because 0 0
-why_lead (lead.Not r) = r
-
-abbrev pub why_opening : OpeningAnswer → Refusal
-why_opening (opening.Is o t) = because 0 0
-why_opening (opening.Not r) = r
-
-abbrev pub why_closing : ClosingAnswer → Refusal
-why_closing (closing.Is c t) = because 0 0
-why_closing (closing.Not r) = r
+abbrev pub closing_of : Answer ClosingRead → Result (SuccessfulRead Closing) Refusal
+closing_of = read_of closing_code

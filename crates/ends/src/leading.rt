@@ -1,20 +1,15 @@
 // The leading fields: version, type and suite.
-ghost use Rattle.std.specs.Prelude.{◌≡◌, true, false, ◌<◌, length};
-ghost use Rattle.format.specs.Read.{at};
+ghost use Rattle.std.specs.Prelude.{◌≡◌, true, false};
+ghost use Rattle.wire.specs.Buffer.{from};
 ghost use Rattle.format.specs.Body.{asked, read_lead_of, read_lead};
-ghost use Rattle.wire.specs.Codes.{because};
 ghost use Rattle.request.specs.Codes.{which_of};
 ghost use Rattle.ends.specs.Codes.{read_suite, lead_of};
 
-use crate::{Lead, LeadAnswer, shared};
+use crate::{Lead, shared};
 use request::Which;
-use wire::{Number, reading, refusals, refuse};
-
-fn no_lead(number: u8) -> LeadAnswer
-    ensures { result ≡ LeadAnswer.Not (because number 0) }
-{
-    LeadAnswer::Not(refuse(number))
-}
+use wire::SuccessfulRead;
+use wire::buffer::ReadableBuffer;
+use wire::refusals::{Reason, Refusal};
 
 // Whether the version is asked for.
 fn is_asked(which: Which, version: u64) -> bool
@@ -28,67 +23,53 @@ fn is_asked(which: Which, version: u64) -> bool
 }
 
 // The suite, behind a version and a type.
-fn read_suite(m: &[u8], s: u64, version: u32, messageType: u32) -> LeadAnswer
-    requires { s < 4294967296 }
-    ensures { result ≡ lead_of (at (read_suite version messageType) m.now s) }
+fn read_suite(
+    b: ReadableBuffer,
+    version: u32,
+    messageType: u32,
+) -> Result<SuccessfulRead<Lead>, Refusal>
+    ensures { result ≡ lead_of (from (read_suite version messageType) b.entry) }
 {
-    let x = shared::read_esdk_suite_id(m, s, version);
-    let Number::Is { value: suite, tail } = x else {
-        return LeadAnswer::Not(x.refusal());
-    };
-    let lead = Lead {
+    let suite = shared::read_esdk_suite_id(b, version)?;
+    let value = Lead {
         version,
         messageType,
-        suite: suite as u32,
+        suite: suite.value as u32,
     };
-    LeadAnswer::Is { lead, tail }
+    Ok(SuccessfulRead {
+        value,
+        tail: suite.tail,
+    })
 }
 
 // Version 1, after the version byte.
-fn read_lead_v1(m: &[u8], s: u64) -> LeadAnswer
-    requires { (s < 4294967296) × (length m.now < 4294967296) }
-    ensures { result ≡ lead_of (at (read_lead_of true) m.now s) }
+fn read_lead_v1(b: ReadableBuffer) -> Result<SuccessfulRead<Lead>, Refusal>
+    ensures { result ≡ lead_of (from (read_lead_of true) b.entry) }
 {
-    let x = reading::read_u8(m, s);
-    let Number::Is {
-        value: messageType,
-        tail,
-    } = x
-    else {
-        return LeadAnswer::Not(x.refusal());
-    };
-    if messageType == 0x80 {
-        return read_suite(m, tail, 1, 0x80);
+    let messageType = b.read_uint::<u8>()?;
+    if messageType.value != 0x80 {
+        return Err(Reason::MessageType.into());
     }
-    no_lead(refusals::MESSAGE_TYPE)
+    read_suite(b.at(messageType.tail), 1, 0x80)
 }
 
 // Version 2, after the version byte.
-fn read_lead_v2(m: &[u8], s: u64) -> LeadAnswer
-    requires { s < 4294967296 }
-    ensures { result ≡ lead_of (at (read_lead_of false) m.now s) }
+fn read_lead_v2(b: ReadableBuffer) -> Result<SuccessfulRead<Lead>, Refusal>
+    ensures { result ≡ lead_of (from (read_lead_of false) b.entry) }
 {
-    read_suite(m, s, 2, 0)
+    read_suite(b, 2, 0)
 }
 
 // Up to 7.
-pub fn read_lead(m: &[u8], s: u64, which: Which) -> LeadAnswer
-    requires { (s < 4294967296) × (length m.now < 4294967296) }
-    ensures { result ≡ lead_of (at (read_lead (which_of which)) m.now s) }
+pub fn read_lead(b: ReadableBuffer, which: Which) -> Result<SuccessfulRead<Lead>, Refusal>
+    ensures { result ≡ lead_of (from (read_lead (which_of which)) b.entry) }
 {
-    let x = shared::read_message_format_version(m, s);
-    let Number::Is {
-        value: version,
-        tail,
-    } = x
-    else {
-        return LeadAnswer::Not(x.refusal());
-    };
-    if is_asked(which, version) {
-        if version == 1 {
-            return read_lead_v1(m, tail);
-        }
-        return read_lead_v2(m, tail);
+    let version = shared::read_message_format_version(b)?;
+    if !is_asked(which, version.value) {
+        return Err(Reason::OtherVersion.into());
     }
-    no_lead(refusals::OTHER_VERSION)
+    if version.value == 1 {
+        return read_lead_v1(b.at(version.tail));
+    }
+    read_lead_v2(b.at(version.tail))
 }

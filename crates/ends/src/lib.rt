@@ -5,17 +5,18 @@
 mod leading;
 mod shared;
 
-ghost use Rattle.std.specs.Prelude.{◌≡◌, true, false, ◌<◌, eqb, length};
-ghost use Rattle.format.specs.Read.{at};
+ghost use Rattle.std.specs.Prelude.{◌≡◌, true, false, ◌<◌, eqb};
+ghost use Rattle.wire.specs.Buffer.{from};
 ghost use Rattle.format.specs.Shared.{id_length};
 ghost use Rattle.format.specs.Body.{read_opening, read_closing_of, read_closing};
-ghost use Rattle.wire.specs.Codes.{because};
 ghost use Rattle.request.specs.Codes.{which_of, policy_of};
-ghost use Rattle.ends.specs.Codes.{opening_of, closing_of, why_lead, why_opening, why_closing};
+ghost use Rattle.ends.specs.Codes.{opening_of, closing_of};
 
 use request::{Policy, Which};
 use suites::Suite;
-use wire::{Number, Refusal, Span, reading, refusals, refuse};
+use wire::SuccessfulRead;
+use wire::buffer::ReadableBuffer;
+use wire::refusals::{Reason, Refusal};
 
 // The leading fields, which stand before the message ID.
 #[derive(Clone, Copy)]
@@ -23,12 +24,6 @@ struct Lead {
     version: u32,
     messageType: u32,
     suite: u32,
-}
-
-#[derive(Clone, Copy)]
-enum LeadAnswer {
-    Is { lead: Lead, tail: u64 },
-    Not(Refusal),
 }
 
 // The ID by its place in the message.
@@ -41,12 +36,6 @@ pub struct Opening {
     pub messageIdLen: u64,
 }
 
-#[derive(Clone, Copy)]
-pub enum OpeningAnswer {
-    Is { opening: Opening, tail: u64 },
-    Not(Refusal),
-}
-
 // The suite data by their place in the message.
 #[derive(Clone, Copy)]
 pub struct Closing {
@@ -55,66 +44,6 @@ pub struct Closing {
     pub frameLength: u32,
     pub suiteDataStart: u64,
     pub suiteDataLen: u64,
-}
-
-#[derive(Clone, Copy)]
-pub enum ClosingAnswer {
-    Is { closing: Closing, tail: u64 },
-    Not(Refusal),
-}
-
-impl LeadAnswer {
-    // The refusal, where there is one.
-    fn refusal(self) -> Refusal
-        ensures { result ≡ why_lead self }
-    {
-        match self {
-            LeadAnswer::Is { lead: _, tail: _ } => refuse(refusals::NONE),
-            LeadAnswer::Not(r) => r,
-        }
-    }
-}
-
-impl OpeningAnswer {
-    // The refusal, where there is one.
-    pub fn refusal(self) -> Refusal
-        ensures { result ≡ why_opening self }
-    {
-        match self {
-            OpeningAnswer::Is {
-                opening: _,
-                tail: _,
-            } => refuse(refusals::NONE),
-            OpeningAnswer::Not(r) => r,
-        }
-    }
-}
-
-impl ClosingAnswer {
-    // The refusal, where there is one.
-    pub fn refusal(self) -> Refusal
-        ensures { result ≡ why_closing self }
-    {
-        match self {
-            ClosingAnswer::Is {
-                closing: _,
-                tail: _,
-            } => refuse(refusals::NONE),
-            ClosingAnswer::Not(r) => r,
-        }
-    }
-}
-
-fn no_opening(number: u8) -> OpeningAnswer
-    ensures { result ≡ OpeningAnswer.Not (because number 0) }
-{
-    OpeningAnswer::Not(refuse(number))
-}
-
-fn no_closing(number: u8) -> ClosingAnswer
-    ensures { result ≡ ClosingAnswer.Not (because number 0) }
-{
-    ClosingAnswer::Not(refuse(number))
 }
 
 // How many bytes the message ID has.
@@ -128,124 +57,90 @@ fn id_len(version: u32) -> u64
 }
 
 // 39 right after the leading fields, before the ID is read.
-pub fn read_opening(m: &[u8], s: u64, which: Which, policy: Policy) -> OpeningAnswer
-    requires { (s < 4294967296) × (length m.now < 4294967296) }
-    ensures { result ≡ opening_of (at (read_opening (which_of which) (policy_of policy)) m.now s) }
+pub fn read_opening(
+    b: ReadableBuffer,
+    which: Which,
+    policy: Policy,
+) -> Result<SuccessfulRead<Opening>, Refusal>
+    ensures { result ≡ opening_of (from (read_opening (which_of which) (policy_of policy)) b.entry) }
 {
-    let x = leading::read_lead(m, s, which);
-    let LeadAnswer::Is { lead, tail: id } = x else {
-        return OpeningAnswer::Not(x.refusal());
-    };
-    if !policy.lets_read(lead.version) {
-        return no_opening(refusals::FORBIDDEN_BY_POLICY);
+    let lead = leading::read_lead(b, which)?;
+    let Lead {
+        version,
+        messageType,
+        suite,
+    } = lead.value;
+    if !policy.lets_read(version) {
+        return Err(Reason::ForbiddenByPolicy.into());
     }
-    let y = reading::read_some_bytes(m, id, id_len(lead.version));
-    let Span::At {
-        start: messageIdStart,
-        len: messageIdLen,
-        tail,
-    } = y
-    else {
-        return OpeningAnswer::Not(y.refusal());
+    let id = b.at(lead.tail).read_some_bytes(id_len(version))?;
+    let value = Opening {
+        version,
+        messageType,
+        suite,
+        messageIdStart: id.start,
+        messageIdLen: id.len,
     };
-    let opening = Opening {
-        version: lead.version,
-        messageType: lead.messageType,
-        suite: lead.suite,
-        messageIdStart,
-        messageIdLen,
-    };
-    OpeningAnswer::Is { opening, tail }
+    Ok(SuccessfulRead {
+        value,
+        tail: id.tail,
+    })
 }
 
 // Version 1, after the content type: reserved bytes, the length of the IV, and no suite data.
-fn read_closing_v1(m: &[u8], s: u64, contentType: u32) -> ClosingAnswer
-    requires { (s < 4294967296) × (length m.now < 4294967296) }
-    ensures { result ≡ closing_of (at (read_closing_of true contentType) m.now s) }
+fn read_closing_v1(b: ReadableBuffer, contentType: u32) -> Result<SuccessfulRead<Closing>, Refusal>
+    ensures { result ≡ closing_of (from (read_closing_of true contentType) b.entry) }
 {
-    let x = reading::read_u32(m, s);
-    let Number::Is { value, tail: iv } = x else {
-        return ClosingAnswer::Not(x.refusal());
-    };
-    if value != 0 {
-        return no_closing(refusals::RESERVED_BYTES);
+    let reserved = b.read_uint::<u32>()?;
+    if reserved.value != 0 {
+        return Err(Reason::ReservedBytes.into());
     }
-    let y = reading::read_u8(m, iv);
-    let Number::Is {
-        value: headerIvLength,
-        tail: frame,
-    } = y
-    else {
-        return ClosingAnswer::Not(y.refusal());
-    };
-    if headerIvLength != Suite::IV_LEN as u64 {
-        return no_closing(refusals::IV_LENGTH);
+    let headerIvLength = b.at(reserved.tail).read_uint::<u8>()?;
+    if headerIvLength.value != Suite::IV_LEN as u64 {
+        return Err(Reason::IvLength.into());
     }
-    let z = reading::read_u32(m, frame);
-    let Number::Is {
-        value: frameLength,
-        tail,
-    } = z
-    else {
-        return ClosingAnswer::Not(z.refusal());
-    };
-    let closing = Closing {
+    let frameLength = b.at(headerIvLength.tail).read_uint::<u32>()?;
+    let value = Closing {
         contentType,
-        headerIvLength: headerIvLength as u32,
-        frameLength: frameLength as u32,
+        headerIvLength: headerIvLength.value as u32,
+        frameLength: frameLength.value as u32,
         suiteDataStart: 0,
         suiteDataLen: 0,
     };
-    ClosingAnswer::Is { closing, tail }
+    Ok(SuccessfulRead {
+        value,
+        tail: frameLength.tail,
+    })
 }
 
 // Version 2, after the content type: the suite data are the commit key.
-fn read_closing_v2(m: &[u8], s: u64, contentType: u32) -> ClosingAnswer
-    requires { (s < 4294967296) × (length m.now < 4294967296) }
-    ensures { result ≡ closing_of (at (read_closing_of false contentType) m.now s) }
+fn read_closing_v2(b: ReadableBuffer, contentType: u32) -> Result<SuccessfulRead<Closing>, Refusal>
+    ensures { result ≡ closing_of (from (read_closing_of false contentType) b.entry) }
 {
-    let x = reading::read_u32(m, s);
-    let Number::Is {
-        value: frameLength,
-        tail: data,
-    } = x
-    else {
-        return ClosingAnswer::Not(x.refusal());
-    };
-    let y = reading::read_some_bytes(m, data, Suite::COMMIT_LEN as u64);
-    let Span::At {
-        start: suiteDataStart,
-        len: suiteDataLen,
-        tail,
-    } = y
-    else {
-        return ClosingAnswer::Not(y.refusal());
-    };
-    let closing = Closing {
+    let frameLength = b.read_uint::<u32>()?;
+    let suiteData = b
+        .at(frameLength.tail)
+        .read_some_bytes(Suite::COMMIT_LEN as u64)?;
+    let value = Closing {
         contentType,
         headerIvLength: 0,
-        frameLength: frameLength as u32,
-        suiteDataStart,
-        suiteDataLen,
+        frameLength: frameLength.value as u32,
+        suiteDataStart: suiteData.start,
+        suiteDataLen: suiteData.len,
     };
-    ClosingAnswer::Is { closing, tail }
+    Ok(SuccessfulRead {
+        value,
+        tail: suiteData.tail,
+    })
 }
 
-pub fn read_closing(m: &[u8], s: u64, version: u32) -> ClosingAnswer
-    requires { (s < 4294967296) × (length m.now < 4294967296) }
-    ensures { result ≡ closing_of (at (read_closing (eqb version 1)) m.now s) }
+pub fn read_closing(b: ReadableBuffer, version: u32) -> Result<SuccessfulRead<Closing>, Refusal>
+    ensures { result ≡ closing_of (from (read_closing (eqb version 1)) b.entry) }
 {
-    let x = shared::read_content_type(m, s);
-    let Number::Is {
-        value: content,
-        tail,
-    } = x
-    else {
-        return ClosingAnswer::Not(x.refusal());
-    };
-    let contentType = content as u32;
+    let content = shared::read_content_type(b)?;
+    let contentType = content.value as u32;
     if version == 1 {
-        return read_closing_v1(m, tail, contentType);
+        return read_closing_v1(b.at(content.tail), contentType);
     }
-    read_closing_v2(m, tail, contentType)
+    read_closing_v2(b.at(content.tail), contentType)
 }

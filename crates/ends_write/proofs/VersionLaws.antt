@@ -1,24 +1,25 @@
 -- Laws of the tests that look at the version, and of what passed a test. Assumes nothing.
 use Prim.Native.Nat.{ℕ, ◌<◌}
 use native.Mathlib.Omega.{arith}
-use mathlib.Core.Path.{◌≡◌, refl, ap}
+use mathlib.Core.Path.{◌≡◌, refl, ◌∙◌}
 use mathlib.Core.Bool.{Bool, true, false, cond, ◌||◌}
+use mathlib.Core.List.{List, ◌∷◌}
 use lib.Dec.{eqb}
-use borrow.Author.Tests.{eqb-true, eq-eqb, ne_eqb}
-use Rattle.format.specs.Shared.{by, one_or_two}
+use borrow.Author.Tests.{eqb-true}
+use Rattle.std.specs.Prelude.{Err}
+use Rattle.format.specs.Shared.{one_or_two}
+use Rattle.format.specs.Checks.{Check, check, first}
+use Rattle.wire.specs.Codes.{because}
+use Rattle.checks.specs.Answers.{Checked, checked}
+use Rattle.checks.proofs.Stages.{check_eq, pass_eq}
 
-module _ (version a b : ℕ) where
-  pub by_first : version ≡ 1 → a ≡ by version a b
-  by_first e = rw (eq-eqb _ _ e)
+-- a check of a number that the version decides, which the code compares with n
+module _ (k x y : ℕ) (cs : List Check) (r : Checked) (n : ℕ) (nIs : n ≡ y) where
+  pub check_by : (x ≡ n → ⊥) → r ≡ Err (because k 0) → r ≡ checked (first (check k (eqb x y) ∷ cs))
+  check_by h = check_eq k x y cs r (rw nIs at h)
 
-  pub by_second : (version ≡ 1 → ⊥) → b ≡ by version a b
-  by_second h = rw (ne_eqb _ _ h)
-
-  pub is_by_first : version ≡ 1 → (n : ℕ) → eqb n a ≡ eqb n (by version a b)
-  is_by_first e n = ap (eqb n) (by_first e)
-
-  pub is_by_second : (version ≡ 1 → ⊥) → (n : ℕ) → eqb n b ≡ eqb n (by version a b)
-  is_by_second h n = ap (eqb n) (by_second h)
+  pub pass_by : x ≡ n → r ≡ checked (first cs) → r ≡ checked (first (check k (eqb x y) ∷ cs))
+  pass_by e = pass_eq k x y cs r (e ∙ nIs)
 
 -- numbers that passed their test are small
 pub one_or_two_small : (x : ℕ) → one_or_two x ≡ true → x < 256

@@ -6,75 +6,78 @@ ghost use Rattle.wire.specs.Stored.{stored};
 ghost use Rattle.checks.specs.Answers.{checked};
 ghost use Rattle.ends_write.specs.Ends.{write_closing};
 
-use super::versions::is_by;
-use checks::{Checked, fails};
+use super::versions::by;
 use fields::{frame_fits, is_one_or_two};
 use suites::Suite;
-use wire::refusals::{CONTENT_TYPE, FRAME_LENGTH, IV_LENGTH, SUITE_DATA_LENGTH};
+use wire::refusals::{Reason, Refusal};
 use wire::writing::{write, write_uint8, write_uint32};
 
-// 17; 19; 25, by the suite data's length; 20.
-pub fn check_closing(version: u32, content: u32, iv: u32, suiteData: usize, frame: u32) -> Checked
-    ensures { result ≡ checked (first (closing_checks version content iv suiteData frame)) }
-{
-    if !is_one_or_two(content) {
-        return fails(CONTENT_TYPE);
-    }
-    if !is_by(version, iv as usize, Suite::IV_LEN, 0) {
-        return fails(IV_LENGTH);
-    }
-    if !is_by(version, suiteData, 0, Suite::COMMIT_LEN) {
-        return fails(SUITE_DATA_LENGTH);
-    }
-    if !frame_fits(content, frame) {
-        return fails(FRAME_LENGTH);
-    }
-    Checked::Passes
+// As it is handed over, likewise; the version decides what of it is stored.
+#[derive(Clone, Copy)]
+pub struct Closing<'a> {
+    pub version: u32,
+    pub contentType: u32,
+    pub headerIvLength: u32,
+    pub frameLength: u32,
+    pub suiteData: &'a [u8],
 }
 
-// How many bytes it takes.
-pub fn closing_size(version: u32) -> usize
-    ensures { (result ≡ by version 10 37) × (result < 64) }
-{
-    if version == 1 {
-        return 10;
+impl Closing<'_> {
+    // 17; 19; 25, by the suite data's length; 20.
+    pub fn check(self) -> Result<(), Refusal>
+        ensures { result ≡ checked (first (closing_checks self.entry.version self.entry.contentType self.entry.headerIvLength (length self.entry.suiteData.now) self.entry.frameLength)) }
+    {
+        if !is_one_or_two(self.contentType) {
+            return Err(Reason::ContentType.into());
+        }
+        if self.headerIvLength as usize != by(self.version, Suite::IV_LEN, 0) {
+            return Err(Reason::IvLength.into());
+        }
+        if self.suiteData.len() != by(self.version, 0, Suite::COMMIT_LEN) {
+            return Err(Reason::SuiteDataLength.into());
+        }
+        if !frame_fits(self.contentType, self.frameLength) {
+            return Err(Reason::FrameLength.into());
+        }
+        Ok(())
     }
-    37
-}
 
-fn put_closing_v1(content: u8, iv: u8, frame: u32, out: &mut [u8])
-    requires { 10 ≤ length out.old }
-    ensures { out.new ≡ stored out.old 0 (write_closing true content iv frame []) }
-{
-    write_uint8(out, 0, content);
-    write_uint32(out, 1, 0);
-    write_uint8(out, 5, iv);
-    write_uint32(out, 6, frame);
-}
-
-fn put_closing_v2(content: u8, frame: u32, suiteData: &[u8], out: &mut [u8])
-    requires { 5 + length suiteData.now ≤ length out.old }
-    ensures { out.new ≡ stored out.old 0 (write_closing false content 0 frame suiteData.now) }
-{
-    write_uint8(out, 0, content);
-    write_uint32(out, 1, frame);
-    write(suiteData, 0, suiteData.len(), out, 5);
-}
-
-pub fn put_closing(
-    version: u32,
-    content: u32,
-    iv: u32,
-    frame: u32,
-    suiteData: &[u8],
-    out: &mut [u8],
-)
-    requires { (content < 256) × (iv < 256) × (10 ≤ length out.old) × (5 + length suiteData.now ≤ length out.old) }
-    ensures { out.new ≡ stored out.old 0 (write_closing (eqb version 1) content iv frame suiteData.now) }
-{
-    if version == 1 {
-        put_closing_v1(content as u8, iv as u8, frame, out);
-        return;
+    // How many bytes it takes.
+    pub fn size(self) -> usize
+        ensures { (result ≡ by self.entry.version 10 37) × (result < 64) }
+    {
+        by(self.version, 10, 37)
     }
-    put_closing_v2(content as u8, frame, suiteData, out);
+
+    // The bounds are what `check` leaves, as in `Opening`.
+    fn put_v1(self, out: &mut [u8])
+        requires { (self.contentType < 256) × (self.headerIvLength < 256) × (10 ≤ length out.old) }
+        ensures { out.new ≡ stored out.old 0 (write_closing true self.entry.contentType self.entry.headerIvLength self.entry.frameLength []) }
+    {
+        write_uint8(out, 0, self.contentType as u8);
+        write_uint32(out, 1, 0);
+        write_uint8(out, 5, self.headerIvLength as u8);
+        write_uint32(out, 6, self.frameLength);
+    }
+
+    fn put_v2(self, out: &mut [u8])
+        requires { (self.contentType < 256) × (5 + length self.suiteData.now ≤ length out.old) }
+        ensures { out.new ≡ stored out.old 0 (write_closing false self.entry.contentType 0 self.entry.frameLength self.entry.suiteData.now) }
+    {
+        write_uint8(out, 0, self.contentType as u8);
+        write_uint32(out, 1, self.frameLength);
+        write(self.suiteData, 0, self.suiteData.len(), out, 5);
+    }
+
+    // From the first byte of what is lent.
+    pub fn put(self, out: &mut [u8])
+        requires { (self.contentType < 256) × (self.headerIvLength < 256) × (10 ≤ length out.old) × (5 + length self.suiteData.now ≤ length out.old) }
+        ensures { out.new ≡ stored out.old 0 (write_closing (eqb self.entry.version 1) self.entry.contentType self.entry.headerIvLength self.entry.frameLength self.entry.suiteData.now) }
+    {
+        if self.version == 1 {
+            self.put_v1(out);
+            return;
+        }
+        self.put_v2(out);
+    }
 }

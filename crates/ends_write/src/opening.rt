@@ -1,108 +1,96 @@
 // What stands before the context section.
 ghost use Rattle.std.specs.Prelude.{◌≡◌, true, false, ◌+◌, ◌≤◌, ◌<◌, eqb, length};
 ghost use Rattle.format.specs.Shared.{by};
-ghost use Rattle.format.specs.Policies.{no_policy};
 ghost use Rattle.format.specs.Checks.{first, lead_checks, opening_checks};
-ghost use Rattle.format.specs.UnderPolicy.{forbids_checked};
 ghost use Rattle.wire.specs.Stored.{stored};
 ghost use Rattle.checks.specs.Answers.{checked};
 ghost use Rattle.request.specs.Codes.{policy_of};
 ghost use Rattle.ends_write.specs.Ends.{write_opening};
 
-use super::versions::is_by;
-use checks::{Checked, fails};
+use super::versions::by;
 use fields::is_one_or_two;
 use request::Policy;
-use suites::{Suite, SuiteAnswer};
-use wire::refusals::{
-    ID_LENGTH, MESSAGE_TYPE, SUITE_OF_OTHER_VERSION, UNKNOWN_SUITE, UNKNOWN_VERSION,
-};
+use suites::Suite;
+use wire::refusals::{Reason, Refusal};
 use wire::writing::{write, write_uint8, write_uint16};
 
-// 3; 5; 6; 7.
-fn check_lead(version: u32, kind: u32, suite: u32) -> Checked
-    ensures { result ≡ checked (first (lead_checks version kind suite)) }
-{
-    if !is_one_or_two(version) {
-        return fails(UNKNOWN_VERSION);
-    }
-    if !is_by(version, kind as usize, 0x80, 0) {
-        return fails(MESSAGE_TYPE);
-    }
-    let s = Suite::from_number(suite);
-    let SuiteAnswer::Known(known) = s else {
-        return fails(UNKNOWN_SUITE);
-    };
-    if known.version as u32 != version {
-        return fails(SUITE_OF_OTHER_VERSION);
-    }
-    Checked::Passes
+// As it is handed over: each number is tested before it is cut to the bytes that it is stored in.
+#[derive(Clone, Copy)]
+pub struct Opening<'a> {
+    pub version: u32,
+    pub messageType: u32,
+    pub suite: u32,
+    pub messageId: &'a [u8],
 }
 
-// These; 24, by the ID's length.
-pub fn check_opening(version: u32, kind: u32, suite: u32, id: usize) -> Checked
-    ensures { result ≡ checked (first (opening_checks no_policy version kind suite id)) }
-{
-    let a = check_lead(version, kind, suite);
-    if let Checked::Fails(r) = a {
-        return Checked::Fails(r);
+impl Opening<'_> {
+    // 3; 5; 6; 7.
+    fn check_lead(self) -> Result<(), Refusal>
+        ensures { result ≡ checked (first (lead_checks self.entry.version self.entry.messageType self.entry.suite)) }
+    {
+        if !is_one_or_two(self.version) {
+            return Err(Reason::UnknownVersion.into());
+        }
+        if self.messageType as usize != by(self.version, 0x80, 0) {
+            return Err(Reason::MessageType.into());
+        }
+        let suite = Suite::from_number(self.suite).ok_or(Reason::UnknownSuite)?;
+        if u32::from(suite.version) != self.version {
+            return Err(Reason::SuiteOfOtherVersion.into());
+        }
+        Ok(())
     }
-    if !is_by(version, id, 16, 32) {
-        return fails(ID_LENGTH);
-    }
-    Checked::Passes
-}
 
-// Whether the policy forbids the version where 3, 5, 6 and 7 don't apply: 39.
-pub fn forbids(policy: Policy, version: u32, kind: u32, suite: u32) -> bool
-    ensures { result ≡ forbids_checked (policy_of policy) version (first (lead_checks version kind suite)) }
-{
-    if policy.lets_write(version) {
-        return false;
+    // These; 39, where the policy forbids the version; 24, by the ID's length.
+    pub fn check(self, policy: Policy) -> Result<(), Refusal>
+        ensures { result ≡ checked (first (opening_checks (policy_of policy) self.entry.version self.entry.messageType self.entry.suite (length self.entry.messageId.now))) }
+    {
+        self.check_lead()?;
+        if !policy.lets_write(self.version) {
+            return Err(Reason::ForbiddenByPolicy.into());
+        }
+        if self.messageId.len() != by(self.version, 16, 32) {
+            return Err(Reason::IdLength.into());
+        }
+        Ok(())
     }
-    let a = check_lead(version, kind, suite);
-    match a {
-        Checked::Passes => true,
-        Checked::Fails(_) => false,
+
+    // How many bytes it takes: the place of the context section.
+    pub fn size(self) -> usize
+        ensures { (result ≡ by self.entry.version 20 35) × (result < 64) }
+    {
+        by(self.version, 20, 35)
     }
-}
 
-// How many bytes it takes: the place of the context section.
-pub fn opening_size(version: u32) -> usize
-    ensures { (result ≡ by version 20 35) × (result < 64) }
-{
-    if version == 1 {
-        return 20;
+    // The bounds are what `check` leaves. A type that held them would be made in one place, and say no more plainly that `check` came first.
+    fn put_v1(self, out: &mut [u8])
+        requires { (self.version < 256) × (self.messageType < 256) × (self.suite < 65536) × (4 + length self.messageId.now ≤ length out.old) }
+        ensures { out.new ≡ stored out.old 0 (write_opening true self.entry.version self.entry.messageType self.entry.suite self.entry.messageId.now) }
+    {
+        write_uint8(out, 0, self.version as u8);
+        write_uint8(out, 1, self.messageType as u8);
+        write_uint16(out, 2, self.suite as u16);
+        write(self.messageId, 0, self.messageId.len(), out, 4);
     }
-    35
-}
 
-fn put_opening_v1(version: u8, kind: u8, suite: u16, id: &[u8], out: &mut [u8])
-    requires { 4 + length id.now ≤ length out.old }
-    ensures { out.new ≡ stored out.old 0 (write_opening true version kind suite id.now) }
-{
-    write_uint8(out, 0, version);
-    write_uint8(out, 1, kind);
-    write_uint16(out, 2, suite);
-    write(id, 0, id.len(), out, 4);
-}
-
-fn put_opening_v2(version: u8, suite: u16, id: &[u8], out: &mut [u8])
-    requires { 3 + length id.now ≤ length out.old }
-    ensures { out.new ≡ stored out.old 0 (write_opening false version 0 suite id.now) }
-{
-    write_uint8(out, 0, version);
-    write_uint16(out, 1, suite);
-    write(id, 0, id.len(), out, 3);
-}
-
-pub fn put_opening(version: u32, kind: u32, suite: u32, id: &[u8], out: &mut [u8])
-    requires { (version < 256) × (kind < 256) × (suite < 65536) × (4 + length id.now ≤ length out.old) }
-    ensures { out.new ≡ stored out.old 0 (write_opening (eqb version 1) version kind suite id.now) }
-{
-    if version == 1 {
-        put_opening_v1(version as u8, kind as u8, suite as u16, id, out);
-        return;
+    fn put_v2(self, out: &mut [u8])
+        requires { (self.version < 256) × (self.suite < 65536) × (3 + length self.messageId.now ≤ length out.old) }
+        ensures { out.new ≡ stored out.old 0 (write_opening false self.entry.version 0 self.entry.suite self.entry.messageId.now) }
+    {
+        write_uint8(out, 0, self.version as u8);
+        write_uint16(out, 1, self.suite as u16);
+        write(self.messageId, 0, self.messageId.len(), out, 3);
     }
-    put_opening_v2(version as u8, suite as u16, id, out);
+
+    // From the first byte of the output on. `Closing` has the same test, and nothing else in common.
+    pub fn put(self, out: &mut [u8])
+        requires { (self.version < 256) × (self.messageType < 256) × (self.suite < 65536) × (4 + length self.messageId.now ≤ length out.old) }
+        ensures { out.new ≡ stored out.old 0 (write_opening (eqb self.entry.version 1) self.entry.version self.entry.messageType self.entry.suite self.entry.messageId.now) }
+    {
+        if self.version == 1 {
+            self.put_v1(out);
+            return;
+        }
+        self.put_v2(out);
+    }
 }

@@ -1,13 +1,12 @@
-// What the version decides.
-ghost use Rattle.std.specs.Prelude.{◌≡◌, eqb};
+ghost use Rattle.std.specs.Prelude.{◌≡◌};
 ghost use Rattle.format.specs.Shared.{by};
 
-// Whether n is a in version 1, b in version 2.
-pub fn is_by(version: u32, n: usize, a: usize, b: usize) -> bool
-    ensures { result ≡ eqb n (by version a b) }
+// What the version decides: a in version 1, b in version 2.
+pub(crate) fn by(version: u32, a: usize, b: usize) -> usize
+    ensures { result ≡ by version a b }
 {
     if version == 1 {
-        return n == a;
+        return a;
     }
-    n == b
+    b
 }

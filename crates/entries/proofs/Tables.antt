@@ -14,7 +14,13 @@ use Rattle.format.specs.Places.{number16, entry_here, entry_end, entries_here, e
 use Rattle.steps.proofs.Numbers.{length_part}
 use Rattle.steps.proofs.Operations.{operation_guarded, operation_reached}
 use Rattle.entries.specs.Codes.{EntryIs, Reads}
-use Rattle.entries.specs.declared.Entry.{Entry}
+use Rattle.wire.specs.declared.Span.{Span}
+use Rattle.wire.specs.Buffer.{from, Opens}
+use Rattle.wire.specs.declared.buffer.ReadableBuffer.{ReadableBuffer}
+use Rattle.wire.specs.declared.refusals.Refusal.{Refusal}
+use Rattle.wire.proofs.BufferLaws.{operation_from, why}
+use Rattle.std.specs.Prelude.{Result, Ok, Err}
+use Rattle.std.specs.Borrow.{Bor}
 use Rattle.entries.proofs.Fills.{Numbered, Fills, fills_start, fills_next, fills_more, fills_end}
 
 pub put_both : (t : List ℕ) (j a b : ℕ) → set (set t j a) (j + 1) b ≡ sets t j (a ∷ b ∷ [])
@@ -27,24 +33,24 @@ entries_numbered : Numbered entry_end place 2
 entries_numbered = record { forward = λ m s. omega arith; many = λ p. refl }
 
 -- the loop over entries
-abbrev pub Filled : List ℕ → List ℕ → List ℕ → ℕ → ℕ → ℕ → ℕ → ℕ → Type 0
-Filled m table₀ table first n i j s = Fills entry_here entry_end place 2 m table₀ table first n i j s
+abbrev pub Filled : List ℕ → List ℕ → List ℕ → ℕ → ℕ → ℕ → ℕ → Type 0
+Filled m table₀ table first n i s = Fills entry_here entry_end place 2 m table₀ table first n i (2 * i) s
 
-pub filled_start : (m t : List ℕ) (first n : ℕ) → (0 < n → entries_end m n first ≤ length m) → Filled m t t first n 0 0 first
+pub filled_start : (m t : List ℕ) (first n : ℕ) → (0 < n → entries_end m n first ≤ length m) → Filled m t t first n 0 first
 filled_start m t first n h = fills_start m t first n h
 
-module _ (m t₀ t : List ℕ) (first n i j s : ℕ) (w : Filled m t₀ t first n i j s) where
+module _ (m t₀ t : List ℕ) (first n i s : ℕ) (w : Filled m t₀ t first n i s) where
   module _ (h : i < n) where
     pub filled_next : entry_end m s ≤ length m
-    filled_next = fills_next entries_numbered m t₀ t first n i j s w h
+    filled_next = fills_next entries_numbered m t₀ t first n i (2 * i) s w h
 
-    pub filled_more : (e : Entry) → EntryIs m s e → (t' : List ℕ) → t' ≡ sets t j (e.start ∷ e.len ∷ []) → Filled m t₀ t' first n (i + 1) (j + 2) e.tail
+    pub filled_more : (e : Span) → EntryIs m s e → (t' : List ℕ) → t' ≡ sets t (2 * i) (e.start ∷ e.len ∷ []) → Filled m t₀ t' first n (i + 1) e.tail
     filled_more e is t' f =
         let long = length_part m (s + 2) (number16 m s) filled_next in
-        fills_more entries_numbered m t₀ t first n i j s w h t' (j + 2) e.tail (f ∙ rw (is.starts, is.size, long)) refl is.ends
+        fills_more entries_numbered m t₀ t first n i (2 * i) s w h t' (2 * (i + 1)) e.tail (f ∙ rw (is.starts, is.size, long)) (omega arith) is.ends
 
   pub filled_end : 2 * n ≤ length t₀ → n ≤ i → t ≡ filled (images place (entries_here m n first)) t₀
-  filled_end r h = fills_end entries_numbered m t₀ t first n i j s w r h
+  filled_end r h = fills_end entries_numbered m t₀ t first n i (2 * i) s w r h
 
 -- the contract of a reader with a table: a refusal leaves it
 module _ {A R : Type 0} (code : Answer A → R) (numbers : A → List ℕ) (o : Answer A) (table : List ℕ) (r : R) where
@@ -61,3 +67,11 @@ module _ {A R : Type 0} (code : Answer A → R) (numbers : A → List ℕ) (q : 
 
   pub reads_not : b ≡ false → r ≡ code (refused 1 0) → Reads code numbers (operation q m s) table table r
   reads_not e f = refuses code numbers (operation q m s) table r 1 0 (operation_guarded q m s (sym is ∙ e)) f
+
+-- the same, where the operation opens a buffer and goes on
+module _ {A R : Type 0} (code : Answer A → R) (numbers : A → List ℕ) (q : Reader A) (m : Bor (List ℕ)) (s : ℕ) (x : Result ReadableBuffer Refusal) (opens : Opens m s x) (table : List ℕ) (r : R) where
+  pub reads_on : (b : ReadableBuffer) → x ≡ Ok b → (after : List ℕ) → Reads code numbers (from q b) table after r → Reads code numbers (operation q m.now s) table after r
+  reads_on b is after f = rw (operation_from m s x opens b is q) at f
+
+  pub reads_none : (e : Refusal) → x ≡ Err e → r ≡ code (refused e.number e.position) → Reads code numbers (operation q m.now s) table table r
+  reads_none e is f = let (g, h) = why m s x opens e is in refuses code numbers (operation q m.now s) table r e.number e.position (rw g (operation_guarded q m.now s h)) f

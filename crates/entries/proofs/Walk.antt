@@ -6,15 +6,14 @@ use native.Mathlib.Nat.{sub-zero}
 use native.Mathlib.Numerals.{add-one}
 use native.Mathlib.Omega.{arith}
 use lib.ListN.{length}
+use Rattle.std.specs.Prelude.{Result, Ok, Err}
 use Rattle.format.specs.Read.{Reader, accepted, repeat, at}
 use Rattle.steps.proofs.Tidy.{Tidy}
 use Rattle.steps.proofs.Steps.{un_return, un_repeat, all_read, one_more, one_stops}
-use Rattle.wire.specs.declared.Refusal.{Refusal}
+use Rattle.wire.specs.declared.refusals.Refusal.{Refusal}
 use Rattle.format.specs.Places.{items_here, items_end}
 use Rattle.entries.specs.Codes.{next_of}
 use Rattle.entries.specs.Walk.{Walk}
-use Rattle.entries.specs.declared.Next.{Next}
-use Rattle.entries.specs.declared.Next.TheVariants as next
 use Rattle.entries.proofs.Items.{one_less, here_length, here_snoc, end_snoc}
 use Rattle.entries.proofs.Answers.{next_got, next_no}
 
@@ -67,15 +66,15 @@ module _ {A : Type 0} {step : List A → Reader A} {here : List ℕ → ℕ → 
     walk_near h = let y = w.inside in omega arith
 
     module _ (kind : Kind step here end) where
-      pub walk_end : n ≤ i → next.At s ≡ next_of (at (repeat n step []) m first)
+      pub walk_end : n ≤ i → ◌≡◌ {A = Result ℕ Refusal} (Ok s) (next_of (at (repeat n step []) m first))
       walk_end h = let e : n - i ≡ 0 = omega arith in rw (w.left, e, all_read step kind.tidy m (items_here here end m i first) s)
 
-      module _ (h : i < n) (a : Next) (is : a ≡ next_of (at (step (items_here here end m i first)) m s)) where
-        pub walk_stop : (q : Refusal) → a ≡ next.Not q → a ≡ next_of (at (repeat n step []) m first)
+      module _ (h : i < n) (a : Result ℕ Refusal) (is : a ≡ next_of (at (step (items_here here end m i first)) m s)) where
+        pub walk_stop : (q : Refusal) → a ≡ Err q → ◌≡◌ {A = Result ℕ Refusal} (Err q) (next_of (at (repeat n step []) m first))
         walk_stop q b =
-            rw (b, w.left, one_less n i h, one_stops step kind.tidy m (n - (i + 1)) (items_here here end m i first) s _ _ (next_no (at (step (items_here here end m i first)) m s) a is q b))
+            rw (w.left, one_less n i h, one_stops step kind.tidy m (n - (i + 1)) (items_here here end m i first) s _ _ (next_no (at (step (items_here here end m i first)) m s) a is q b))
 
-        pub walk_more : (t : ℕ) → a ≡ next.At t → Walk step here end m first n (i + 1) t
+        pub walk_more : (t : ℕ) → a ≡ Ok t → Walk step here end m first n (i + 1) t
         walk_more t b =
             let g = next_got (at (step (items_here here end m i first)) m s) a is t b in
             let p = kind.known (items_here here end m i first) m s g.item t g.is in

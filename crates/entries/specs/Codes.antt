@@ -1,25 +1,24 @@
 -- The code's answers, of what a reader answers; and the contract of a reader with a lent table. Assumes nothing.
-use Rattle.std.specs.Prelude.{◌≡◌, List, ℕ, ◌+◌, ◌≤◌, ◌<◌, length}
+use Rattle.std.specs.Prelude.{◌≡◌, List, ℕ, ◌+◌, ◌≤◌, ◌<◌, length, Result, Ok, Err}
 use Rattle.format.specs.Read.{Answer, accepted, refused}
 use Rattle.format.specs.Lent.{table_after}
 use Rattle.format.specs.Places.{number16, entry_end}
-use Rattle.wire.specs.Codes.{because}
-use Rattle.wire.specs.declared.Refusal.{Refusal}
-use Rattle.entries.specs.declared.Entry.{Entry}
-use Rattle.entries.specs.declared.Next.{Next}
-use Rattle.entries.specs.declared.Next.TheVariants as next
+use Rattle.wire.specs.Codes.{because, read_of}
+use Rattle.wire.specs.declared.SuccessfulRead.{SuccessfulRead}
+use Rattle.wire.specs.declared.refusals.Refusal.{Refusal}
+use Rattle.wire.specs.declared.Span.{Span}
 
-abbrev pub next_of : {A : Type 0} → Answer A → Next
-next_of (accepted a t) = next.At t
-next_of (refused k p) = next.Not (because k p)
+-- the place behind what was read
+abbrev pub next_of : {A : Type 0} → Answer A → Result ℕ Refusal
+next_of (accepted a t) = Ok t
+next_of (refused k p) = Err (because k p)
 
--- the refusal that an answer carries; 0 where it is none
-abbrev pub why_next : Next → Refusal
-why_next (next.At t) = because 0 0
-why_next (next.Not r) = r
+-- how many items were read, and the tail
+abbrev pub counted : {A : Type 0} → Answer (List A) → Result (SuccessfulRead ℕ) Refusal
+counted = read_of length
 
 -- e is the entry that stands at s, and it lies within the message
-pub record EntryIs (m : List ℕ) (s : ℕ) (e : Entry) : Type 0 where
+pub record EntryIs (m : List ℕ) (s : ℕ) (e : Span) : Type 0 where
   pub starts : e.start ≡ s + 2
   pub size : e.len ≡ number16 m s
   pub short : e.len < 65536

@@ -28,40 +28,37 @@ pub enum Form {
     Old,
 }
 
-// Its numbers in the record.
+// Its numbers in the record that C gets, and that `body_reader` and `body_write` share.
 pub const TODAY: u32 = 0;
 
 pub const OLD: u32 = 1;
 
 // A number that names no form stands for the old one, the stricter mark, since it alone can be refused.
-pub fn form_named(form: u32) -> Form
-    ensures { result ≡ form_named form }
-{
-    if form == TODAY {
-        return Form::Today;
+impl From<u32> for Form {
+    ghost from_gives = { λ n form. form ≡ form_named n };
+
+    fn from(number: u32) -> Form {
+        match number {
+            TODAY => Form::Today,
+            _ => Form::Old,
+        }
     }
-    Form::Old
 }
 
 // The versions, and the content types.
 pub fn is_one_or_two(x: u32) -> bool
     ensures { result ≡ one_or_two x }
 {
-    if x == 1 {
-        return true;
-    }
-    x == 2
+    matches!(x, 1 | 2)
 }
 
 // Framed content needs a frame length above 0, non-framed content needs 0.
 pub fn frame_fits(contentType: u32, frameLength: u32) -> bool
     ensures { result ≡ frame_fits contentType frameLength }
 {
-    if contentType == 1 {
-        return frameLength == 0;
+    match contentType {
+        1 => frameLength == 0,
+        2 => frameLength != 0,
+        _ => false,
     }
-    if contentType == 2 {
-        return frameLength != 0;
-    }
-    false
 }

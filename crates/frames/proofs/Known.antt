@@ -1,26 +1,21 @@
 -- What was read of a frame: where it ends, and that it goes on from where it began. Assumes nothing.
-use mathlib.Core.Path.{◌≡◌, refl, sym, ap, subst}
+use mathlib.Core.Path.{◌≡◌, refl, ap, subst}
 use mathlib.Core.Bool.{Bool, true, false}
 use mathlib.Core.List.{List, [], ◌∷◌, ◌++◌}
 use Prim.Native.Nat.{ℕ, zero, suc, ◌+◌, ◌≤◌, ◌<◌}
 use native.Mathlib.Omega.{arith}
 use lib.ListN.{length, drop, length-append}
-use Rattle.format.specs.Read.{ReadResult, success, more_needed, error, Item, followed, last, behind, until, run, accepted, refused, answer, at}
+use Rattle.format.specs.Read.{Item, followed, last, behind, until, run, accepted, at}
 use Rattle.format.specs.Serialize.{Part}
 use Rattle.format.specs.Frames.{FrameAt, next_number, read_sealed, read_frame_of, read_frame, read_next_frame, read_frames}
 use Rattle.format.specs.Places.{final_here, frame_of_here, frame_here, frame_end}
 use Rattle.format.proofs.Lines.{goes_accepted, goes_ended}
-use Rattle.format.proofs.Frames.{frame_goes, frame_listed, frames_unbounded}
-use Rattle.format.proofs.ListedLaws.{Fine}
-use Rattle.format.proofs.Members.{no_member}
+use Rattle.format.proofs.Frames.{frame_goes, frames_unbounded}
 use Rattle.steps.proofs.Tidy.{Tidy, tidy, uint32_tidy}
 use Rattle.steps.proofs.Steps.{refused_is_none, un_bind, un_return, inside, forward}
 use Rattle.steps.proofs.Numbers.{uint32_known}
 use Rattle.steps.proofs.Runs.{run_tidy, run_inside}
-use Rattle.frames.specs.Codes.{read_iv, Kinds}
-
-pub iv_tidy : (number due : ℕ) → Tidy (read_iv number due)
-iv_tidy number due = search tidy depth 20
+use Rattle.frames.specs.Codes.{Kinds}
 
 pub sealed_tidy : (iv : Part) (n : ℕ) → Tidy (read_sealed iv n)
 unfolding read_sealed
@@ -52,16 +47,6 @@ frame_further frame due m s x t e =
     let w = inside (frame_of_tidy frame due _ n) m u (omega (arith, z.tail, z.there)) x t q in
     let l = forward (frame_of_tidy frame due _ n) m u x t q in
     record { further = omega (arith, z.tail); within = w }
-
--- a frame is refused by a number that is not 0
-pub frame_some : (frame due : ℕ) (m : List ℕ) (s : ℕ) (k p : ℕ) → at (read_frame frame due) m s ≡ refused k p → k ≡ 0 → ⊥
-unfolding at
-frame_some frame due m s k p e z = by (read_frame frame due (drop s m) s) ((frame_listed frame due).fine (drop s m) s) e
-  where
-    by : (x : ReadResult (Item FrameAt)) → Fine (34 ∷ 35 ∷ []) (s + length (drop s m)) x → answer x ≡ refused k p → ⊥
-    by (success a l t) f q = refused_is_none (sym q)
-    by (more_needed w) f q = let j : 2 ≡ k = cc in omega arith
-    by (error j) f q = let i : j ≡ k = cc in no_member (34 ∷ 35 ∷ []) 0 refl (rw (i, z) at f)
 
 -- and frames, too, end within the message
 pub frames_within : (frame : ℕ) (m : List ℕ) (s : ℕ) (fs : List FrameAt) (t : ℕ) → at (read_frames frame) m s ≡ accepted fs t → t ≤ length m

@@ -14,16 +14,18 @@ use Rattle.format.specs.Places.{with_item, run_here, behind_item, run_end, run_b
 use Rattle.format.proofs.Lines.{goes_accepted, goes_ended}
 use Rattle.format.proofs.Frames.{frames_goes}
 use Rattle.steps.proofs.Steps.{pass, fail}
+use Rattle.std.specs.Prelude.{Result, Ok, Err}
 use Rattle.wire.specs.Codes.{because}
-use Rattle.wire.specs.declared.Refusal.{Refusal}
-use Rattle.entries.specs.Codes.{Reads}
-use Rattle.entries.proofs.Sections.{counted, tabled_not, tabled_short, tabled_whole}
+use Rattle.wire.specs.declared.refusals.Refusal.{Refusal}
+use Rattle.wire.specs.declared.SuccessfulRead.{SuccessfulRead}
+use Rattle.entries.specs.Codes.{Reads, counted}
+use Rattle.entries.proofs.Sections.{counted_got, tabled_not, tabled_short, tabled_whole}
 use Rattle.entries.proofs.Tables.{refuses}
-use Rattle.frames.specs.Codes.{frames_of, frames_tabled, parts_here, part_numbers, Kinds}
-use Rattle.frames.specs.declared.FramesAnswer.{FramesAnswer}
-use Rattle.frames.specs.declared.FramesAnswer.TheVariants.{Accepted, Refused}
+use Rattle.frames.specs.Codes.{frames_tabled, parts_here, part_numbers, Kinds}
 use Rattle.frames.proofs.Known.{frames_tidy, frames_within, frames_kinds}
-use Rattle.frames.proofs.Answers.{count_of, frames_counts}
+
+abbrev Number : Type 0
+Number = Result (SuccessfulRead ℕ) Refusal
 
 -- a run's items, counted, and where they end
 module _ {A : Type 0} (here : List ℕ → ℕ → Item A) (end : List ℕ → ℕ → ℕ) (m : List ℕ) where
@@ -67,49 +69,47 @@ module _ (frame : ℕ) (m : List ℕ) (start : ℕ) (fs : List FrameAt) (t : ℕ
       let d : t ≡ frames_end frame m start = goes_ended (frames_goes frame) m start fs t is in
       d ∙ (rw (← e) at (run_ended (frame_here frame) (frame_end frame) m (run_bound m start) start))
 
-module _ (frame : ℕ) (m : List ℕ) (start : ℕ) (a : FramesAnswer) (aIs : a ≡ frames_of (at (read_frames frame) m start)) where
-  module _ (n tail : ℕ) (b : a ≡ Accepted n tail) where
-    pub frames_inside : 0 < n → items_end (frame_end frame) m n start ≤ length m
+module _ (frame : ℕ) (m : List ℕ) (start : ℕ) (a : Number) (aIs : a ≡ counted (at (read_frames frame) m start)) where
+  module _ (r : SuccessfulRead ℕ) (b : a ≡ Ok r) where
+    pub frames_inside : 0 < r.value → items_end (frame_end frame) m r.value start ≤ length m
     frames_inside h =
-        let c = counted frames_counts (at (read_frames frame) m start) a aIs n tail (ap count_of b) in
-        let e = frames_ended frame m start c.items tail c.is in
-        let w = frames_within frame m start c.items tail c.is in
-        let same : tail ≡ items_end (frame_end frame) m n start = e ∙ ap (λ k. items_end (frame_end frame) m k start) c.long in
+        let c = counted_got (at (read_frames frame) m start) a aIs r b in
+        let e = frames_ended frame m start c.items r.tail c.is in
+        let w = frames_within frame m start c.items r.tail c.is in
+        let same : r.tail ≡ items_end (frame_end frame) m r.value start = e ∙ ap (λ k. items_end (frame_end frame) m k start) c.long in
         rw (← same) w
 
-    pub frames_of_kinds : Kinds frame m n start
+    pub frames_of_kinds : Kinds frame m r.value start
     frames_of_kinds =
-        let c = counted frames_counts (at (read_frames frame) m start) a aIs n tail (ap count_of b) in
-        rw c.long at (frames_kinds frame m start c.items tail c.is)
+        let c = counted_got (at (read_frames frame) m start) a aIs r b in
+        rw c.long at (frames_kinds frame m start c.items r.tail c.is)
 
   -- with refusal 23
   module _ (table : List ℕ) where
-    abbrev pub Into : List ℕ → FramesAnswer → Type 0
-    Into = Reads frames_of frame_numbers (at (frames_tabled frame (length table)) m start) table
+    abbrev pub Into : List ℕ → Number → Type 0
+    Into = Reads counted frame_numbers (at (frames_tabled frame (length table)) m start) table
 
-    pub into_not : (q : Refusal) → a ≡ Refused q → Into table a
-    into_not q b = tabled_not frames_counts (frames_tidy frame) frame_numbers m start a aIs 23 6 table _ _ (ap count_of b)
+    pub into_not : (q : Refusal) → a ≡ Err q → Into table (Err q)
+    into_not = tabled_not (frames_tidy frame) frame_numbers m start a aIs 23 6 table
 
-    module _ (n tail : ℕ) (b : a ≡ Accepted n tail) (r : FramesAnswer) where
-      pub into_23 : length table / 6 < n → r ≡ Refused (because 23 0) → Into table r
-      into_23 g f = tabled_short frames_counts (frames_tidy frame) frame_numbers m start a aIs 23 6 table n tail (ap count_of b) r (omega arith) f
+    module _ (r : SuccessfulRead ℕ) (b : a ≡ Ok r) where
+      pub into_23 : length table / 6 < r.value → (q : Refusal) → q ≡ because 23 0 → Into table (Err q)
+      into_23 g = tabled_short (frames_tidy frame) frame_numbers m start a aIs 23 6 table r b (omega arith)
 
-      pub into_whole : n ≤ length table / 6 → (after : List ℕ) → after ≡ filled (images part_numbers (items_here (parts_here frame) (frame_end frame) m n start)) table → r ≡ Accepted n tail
-          → Into after r
-      into_whole g after e f =
-          tabled_whole frames_counts (frames_tidy frame) frame_numbers m start a aIs 23 6 table n tail (ap count_of b) r (omega arith) after
+      pub into_whole : r.value ≤ length table / 6 → (after : List ℕ) → after ≡ filled (images part_numbers (items_here (parts_here frame) (frame_end frame) m r.value start)) table → Into after (Ok r)
+      into_whole g after e =
+          tabled_whole (frames_tidy frame) frame_numbers m start a aIs 23 6 table r b (omega arith) after
           (λ fs is long.
-          let are : fs ≡ items_here (parts_here frame) (frame_end frame) m n start = rw long at (frames_are frame m start fs tail is) in
+          let are : fs ≡ items_here (parts_here frame) (frame_end frame) m r.value start = rw long at (frames_are frame m start fs r.tail is) in
           e ∙ ap (λ (l : List ℕ). filled l table) (ap (images part_numbers) (sym are) ∙ sym (numbers_of fs)))
-          (f ∙ sym b)
 
 -- with refusal 20
-module _ (frame : ℕ) (m : List ℕ) (start : ℕ) (table : List ℕ) (r : FramesAnswer) where
-  pub length_0 : frame ≡ 0 → r ≡ Refused (because 20 0) → Reads frames_of frame_numbers (at (read_frames_into frame (length table)) m start) table table r
+module _ (frame : ℕ) (m : List ℕ) (start : ℕ) (table : List ℕ) where
+  pub length_0 : frame ≡ 0 → (q : Refusal) → q ≡ because 20 0 → Reads counted frame_numbers (at (read_frames_into frame (length table)) m start) table table (Err q)
   unfolding read_frames_into
-  length_0 h f = refuses frames_of frame_numbers _ table r 20 0 (fail 20 _ _ m start (ap not (eq-eqb frame 0 h))) f
+  length_0 h q f = refuses counted frame_numbers _ table (Err q) 20 0 (fail 20 _ _ m start (ap not (eq-eqb frame 0 h))) (rw f)
 
-  pub length_some : (frame ≡ 0 → ⊥) → (after : List ℕ) → Reads frames_of frame_numbers (at (frames_tabled frame (length table)) m start) table after r
-      → Reads frames_of frame_numbers (at (read_frames_into frame (length table)) m start) table after r
+  pub length_some : (frame ≡ 0 → ⊥) → (after : List ℕ) (r : Number) → Reads counted frame_numbers (at (frames_tabled frame (length table)) m start) table after r
+      → Reads counted frame_numbers (at (read_frames_into frame (length table)) m start) table after r
   unfolding read_frames_into
-  length_some h after f = rw (pass 20 _ _ m start (ap not (ne_eqb frame 0 h))) f
+  length_some h after r f = rw (pass 20 _ _ m start (ap not (ne_eqb frame 0 h))) f

@@ -1,32 +1,23 @@
 -- The code's answers, of what a reader answers; and what the second pass knows of the frames that were read. Assumes nothing.
-use Rattle.std.specs.Prelude.{List, [], ◌∷◌, ℕ, zero, suc, ◌+◌, ◌*◌, ◌<◌, length, ◌≡◌, Bool, true, false, leb, eqb}
-use Rattle.format.specs.Read.{Reader, ◌>>=◌, ◌>>◌, return, test, Item, followed, last, item, Answer, accepted, refused, at}
+use Rattle.std.specs.Prelude.{List, ℕ, zero, suc, ◌*◌, length, ◌≡◌, true, false, leb, eqb, Result}
+use Rattle.format.specs.Read.{Reader, ◌>>=◌, ◌>>◌, return, test, Item, followed, last, item, Answer, at}
 use Rattle.format.specs.Serialize.{Part, read, images}
 use Rattle.format.specs.Frames.{FrameAt, frame_places, read_sealed, read_frame_of, read_frames}
 use Rattle.format.specs.Lent.{place}
 use Rattle.format.specs.Places.{final_here, frame_here, frame_end}
-use Rattle.wire.specs.Codes.{because}
+use Rattle.wire.specs.Codes.{read_of}
+use Rattle.wire.specs.declared.refusals.Refusal.{Refusal}
+use Rattle.wire.specs.declared.SuccessfulRead.{SuccessfulRead}
 use Rattle.entries.specs.Codes.{next_of}
-use Rattle.entries.specs.declared.Next.{Next}
-use Rattle.frames.specs.declared.FrameRead.{FrameRead}
-use Rattle.frames.specs.declared.FramePlaces.{FramePlaces}
-use Rattle.frames.specs.declared.FramesAnswer.{FramesAnswer}
-use Rattle.frames.specs.declared.FramesAnswer.TheVariants as frames
+use Rattle.frames.specs.declared.Kind.{Kind}
+use Rattle.frames.specs.declared.Kind.TheVariants.{Regular, Final}
 
-abbrev pub frame_at : ℕ → Bool → FrameRead
-frame_at t b = record { number = 0; last = b; place = t }
+abbrev pub kind_of : Item FrameAt → Kind
+kind_of (followed f) = Regular
+kind_of (last f) = Final
 
-abbrev pub no_frame : ℕ → ℕ → FrameRead
-no_frame k p = record { number = k; last = false; place = p }
-
-abbrev pub frame_read_of : Answer (Item FrameAt) → FrameRead
-frame_read_of (accepted (followed f) t) = frame_at t false
-frame_read_of (accepted (last f) t) = frame_at t true
-frame_read_of (refused k p) = no_frame k p
-
-abbrev pub frames_of : Answer (List FrameAt) → FramesAnswer
-frames_of (accepted fs t) = frames.Accepted (length fs) t
-frames_of (refused k p) = frames.Refused (because k p)
+abbrev pub frame_read_of : Answer (Item FrameAt) → Result (SuccessfulRead Kind) Refusal
+frame_read_of = read_of kind_of
 
 -- the IV behind a sequence number: 34 where that is not the one due
 abbrev pub read_iv : ℕ → ℕ → Reader Part
@@ -35,11 +26,11 @@ read_iv number due = do
   read 12
 
 -- the place behind n bytes of content and a tag, whatever IV stands before them
-pub record PassesSealed (n : ℕ) (m : List ℕ) (s : ℕ) (r : Next) : Type 0 where
+pub record PassesSealed (n : ℕ) (m : List ℕ) (s : ℕ) (r : Result ℕ Refusal) : Type 0 where
   pub passes : (iv : Part) → r ≡ next_of (at (read_sealed iv n) m s)
 
 -- a final frame, whatever number its mark is
-pub record ReadsFinal (frame due : ℕ) (m : List ℕ) (s : ℕ) (r : FrameRead) : Type 0 where
+pub record ReadsFinal (frame due : ℕ) (m : List ℕ) (s : ℕ) (r : Result (SuccessfulRead Kind) Refusal) : Type 0 where
   pub reads : (mark : ℕ) → r ≡ frame_read_of (at (read_frame_of frame due true mark) m s)
 
 -- the frames with their table, behind the test of the frame length
@@ -55,17 +46,6 @@ parts_here frame m s = item (frame_here frame m s)
 
 abbrev pub part_numbers : FrameAt → List ℕ
 part_numbers f = images place (frame_places f)
-
-abbrev pub places_from : ℕ → ℕ → ℕ → FramePlaces
-places_from iv content n = record { iv = iv; content = content; len = n; tag = content + n; tail = content + n + 16 }
-
--- r is the frame that stands at s, and it lies within the message
-pub record FrameIs (frame : ℕ) (m : List ℕ) (s : ℕ) (r : FramePlaces) : Type 0 where
-  pub numbers : part_numbers (parts_here frame m s) ≡ (r.iv ∷ 12 ∷ r.content ∷ r.len ∷ r.tag ∷ 16 ∷ [])
-  pub ends : r.tail ≡ frame_end frame m s
-  pub ivs : r.iv + 12 < 4294967296
-  pub contents : r.content + r.len < 4294967296
-  pub tags : r.tag + 16 < 4294967296
 
 -- of n frames from s on the last one is final, and no other
 abbrev pub Kinds : ℕ → List ℕ → ℕ → ℕ → Type 0

@@ -20,15 +20,13 @@ use Rattle.format.proofs.Tables.{items_length}
 use Rattle.format.proofs.FrameLaws.{frames_length}
 use Rattle.format.proofs.FramesWritten.{some_frames, taken}
 use Rattle.wire.specs.Stored.{stored}
-use Rattle.checks.specs.Answers.{checked, write_answer_of}
-use Rattle.checks.specs.declared.Checked.{Checked}
-use Rattle.checks.specs.declared.Checked.TheVariants.{Passes}
-use Rattle.checks.specs.declared.WriteAnswer.{WriteAnswer}
-use Rattle.checks.specs.declared.WriteAnswer.TheVariants.{Written}
+use Rattle.checks.specs.Answers.{Checked, checked, write_answer_of}
 use Rattle.checks.proofs.Stages.{stage_none}
 use Rattle.checks.proofs.Parts.{part_here, part_length}
 use Rattle.checks.proofs.Writers.{told_none}
 use Rattle.frames_write.specs.Table.{sealed_at, content_at, contents_in, lengths_checks, frames_size, FrameThere, FramesReady}
+use Rattle.std.specs.Prelude.{Result, Ok}
+use Rattle.wire.specs.declared.refusals.Refusal.{Refusal}
 
 -- a frame of a table whose places are inside the text
 module _ (text table : List ℕ) (p : every (in_text text table) (places table) ≡ true) where
@@ -141,7 +139,7 @@ module _ (frame : ℕ) (text table : List ℕ) (passes : first (writing_frames f
       let n : length (frames_in text table) ≡ suc (length table / 6 - 1) = (let k = counted text table in omega (arith, t.some)) in
       rw (← contents_are text table t.inside) (frames_length frame 1 (length table / 6 - 1) (frames_in text table) t.frames.frames n)
 
-module _ (frame : ℕ) (text table : List ℕ) (c : Checked) (is : c ≡ checked (first (writing_frames frame text table).checks)) (e : c ≡ Passes) where
+module _ (frame : ℕ) (text table : List ℕ) (c : Checked) (is : c ≡ checked (first (writing_frames frame text table).checks)) (e : c ≡ Ok tt) where
   pub size_some : 0 < length table / 6
   size_some = (is_taken frame text table (stage_none _ c is e)).some
 
@@ -153,7 +151,7 @@ module _ (frame : ℕ) (text table : List ℕ) (c : Checked) (is : c ≡ checked
 
 -- what a length that was told gives the stores
 module _ (frame : ℕ) (text table : List ℕ) where
-  pub sized_ready : (s : WriteAnswer) → s ≡ write_answer_of (size_of (writing_frames frame text table)) → (n : ℕ) → s ≡ Written n → (room : ℕ) → n ≤ room → FramesReady text table room
+  pub sized_ready : (s : Result ℕ Refusal) → s ≡ write_answer_of (size_of (writing_frames frame text table)) → (n : ℕ) → s ≡ Ok n → (room : ℕ) → n ≤ room → FramesReady text table room
   unfolding writing_frames
   sized_ready s is n e room h =
       let (p, d) = told_none (writing_frames frame text table) s is n e in

@@ -1,2 +1,3 @@
 pub mod Table
 pub mod Puts
+pub mod Frames

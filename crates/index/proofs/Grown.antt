@@ -8,13 +8,13 @@ use lib.ListN.{length, get_or}
 use Rattle.format.specs.Serialize.{same_bytes}
 use Rattle.format.specs.Fields.{Pair}
 use Rattle.format.specs.Context.{seen}
-use Rattle.comparing.specs.Order.{compare_bytes, flip}
-use Rattle.comparing.specs.declared.Order.{Order}
-use Rattle.comparing.specs.declared.Order.TheVariants.{Less, Greater}
+use Rattle.std.specs.declared.cmp.Ordering.{Ordering}
+use Rattle.std.specs.declared.cmp.Ordering.TheVariants.{Less, Greater}
+use Rattle.std.specs.Ordering.{ordering_reverse}
+use Rattle.std.specs.Prelude.{Result, Ok, Err}
+use Rattle.comparing.specs.Order.{compare_bytes}
 use Rattle.comparing.proofs.Ordered.{Way, under, same, over, way, compare_flip, same_refl, less_not_same, greater_not_same}
 use Rattle.index.specs.Index.{Index, Stands, Between, Sought, Finds, Shifted, Copied}
-use Rattle.index.specs.declared.Spot.{Spot}
-use Rattle.index.specs.declared.Spot.TheVariants.{Found, At}
 
 or_true : (t : Bool) → t || true ≡ true
 or_true true = refl
@@ -90,8 +90,8 @@ module _ (key : ℕ → List ℕ) (Good : ℕ → Type 0) where
     pub between_unseen : (k : List ℕ) (p : ℕ) → Between key n s k p → seen k done ≡ false
     between_unseen k p b = ix.all k (λ r h. go r h (way r p))
       where
-        turned : (a : List ℕ) (o : Order) → compare_bytes a k ≡ o → compare_bytes k a ≡ flip o
-        turned a o e = compare_flip a k ∙ ap flip e
+        turned : (a : List ℕ) (o : Ordering) → compare_bytes a k ≡ o → compare_bytes k a ≡ ordering_reverse o
+        turned a o e = compare_flip a k ∙ ap ordering_reverse e
 
         go : (r : ℕ) → r < n → Way r p → same_bytes k (key (get_or s r 0)) ≡ false
         go r h (under w) = greater_not_same k (key (get_or s r 0)) (turned (key (get_or s r 0)) Less (b.below r w))
@@ -109,7 +109,7 @@ module _ (key : ℕ → List ℕ) (Good : ℕ → Type 0) where
           less r u v e f l = rw (e, f, is) (b.below r l)
 
           more : (r u v : ℕ) → u ≡ x → v ≡ get_or s r 0 → p ≤ r → r < n → compare_bytes (key u) (key v) ≡ Less
-          more r u v e f l m = rw (e, f, is) (compare_flip (key (get_or s r 0)) q.key ∙ ap flip (b.above r l m))
+          more r u v e f l m = rw (e, f, is) (compare_flip (key (get_or s r 0)) q.key ∙ ap ordering_reverse (b.above r l m))
 
           go : (r j : ℕ) → r < j → From p n r → From p n j → compare_bytes (key (get_or t r 0)) (key (get_or t j 0)) ≡ Less
           go r j l (low _ a) (low _ c) = old r j _ _ (sh.below r a) (sh.below j c) l (omega (arith, b.within))
@@ -146,15 +146,9 @@ module _ (key : ℕ → List ℕ) (Good : ℕ → Type 0) where
       index_more g = record { ascends = ascending; good = shifted_all s t p n x sh b.within Good g ix.good; only = all_only; all = all_all }
 
 -- what a search found
-module _ (key : ℕ → List ℕ) (n : ℕ) (s k : List ℕ) (w : Spot) (h : Sought key n s k w) where
-  pub sought_stands : (p : ℕ) → w ≡ Found p → Stands key n s k p
-  sought_stands p e = subst (λ (x : Spot). Finds key n s k x) e h.finds
+module _ (key : ℕ → List ℕ) (n : ℕ) (s k : List ℕ) (w : Result ℕ ℕ) (h : Sought key n s k w) where
+  pub sought_stands : (p : ℕ) → w ≡ Ok p → Stands key n s k p
+  sought_stands p e = subst (λ (x : Result ℕ ℕ). Finds key n s k x) e h.finds
 
-  pub sought_seen : (Good : ℕ → Type 0) (done : List Pair) → Index key Good done n s → (p : ℕ) → w ≡ Found p → seen k done ≡ true
-  sought_seen Good done ix p e = let y = sought_stands p e in subst (λ (x : List ℕ). seen x done ≡ true) y.is (ix.only p y.within)
-
-  pub sought_between : (p : ℕ) → w ≡ At p → Between key n s k p
-  sought_between p e = subst (λ (x : Spot). Finds key n s k x) e h.finds
-
-  pub sought_place : (p : ℕ) → w ≡ At p → p ≤ n
-  sought_place p e = (sought_between p e).within
+  pub sought_between : (p : ℕ) → w ≡ Err p → Between key n s k p
+  sought_between p e = subst (λ (x : Result ℕ ℕ). Finds key n s k x) e h.finds

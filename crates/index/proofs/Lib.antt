@@ -1,5 +1,3 @@
-pub mod Moved
-pub mod Bracket
+pub mod Halving
 pub mod Grown
 pub mod Sorted
-pub mod Smaller

@@ -6,8 +6,9 @@ use mathlib.Core.List.{List, [], ◌∷◌, ◌++◌}
 use lib.ListN.{length, get_or}
 use Rattle.format.specs.Fields.{Pair}
 use Rattle.format.specs.Sorted.{put_in_order, sort_among}
-use Rattle.comparing.specs.Order.{compare_bytes, flip}
-use Rattle.comparing.specs.declared.Order.TheVariants.{Less, Greater}
+use Rattle.std.specs.declared.cmp.Ordering.TheVariants.{Less, Greater}
+use Rattle.std.specs.Ordering.{ordering_reverse}
+use Rattle.comparing.specs.Order.{compare_bytes}
 use Rattle.comparing.proofs.Ordered.{compare_flip, less_before, greater_before}
 use Rattle.index.specs.Index.{Between, Shifted, Copied, numbered, Sorts}
 
@@ -43,7 +44,7 @@ module _ (pair : ℕ → Pair) where
     here zero e = rw sh.here refl
     here (suc c) e =
         let above : compare_bytes (key (get_or s p 0)) (key x) ≡ Greater = b.above p (omega arith) (omega arith) in
-        let less : compare_bytes (key x) (key (get_or s p 0)) ≡ Less = compare_flip (key (get_or s p 0)) (key x) ∙ ap flip above in
+        let less : compare_bytes (key x) (key (get_or s p 0)) ≡ Less = compare_flip (key (get_or s p 0)) (key x) ∙ ap ordering_reverse above in
         let rest : numbered pair t (suc c) (suc p) ≡ numbered pair s (suc c) p = numbered_same pair s t (suc c) p (suc p) (λ a a' r u v l. let z : a' ≡ suc a = omega arith in rw z (sh.above a (omega arith) (omega arith))) in
         rw (less_before (key x) (key (get_or s p 0)) less, sh.here) (ap (λ (ps : List Pair). pair x ∷ ps) rest)
 
@@ -54,7 +55,7 @@ module _ (pair : ℕ → Pair) where
     passed (suc d) zero i e f = let w : p ≤ n = b.within in absurd (omega arith)
     passed (suc d) (suc k) i e f =
         let below : compare_bytes (key (get_or s i 0)) (key x) ≡ Less = b.below i (omega arith) in
-        let greater : compare_bytes (key x) (key (get_or s i 0)) ≡ Greater = compare_flip (key (get_or s i 0)) (key x) ∙ ap flip below in
+        let greater : compare_bytes (key x) (key (get_or s i 0)) ≡ Greater = compare_flip (key (get_or s i 0)) (key x) ∙ ap ordering_reverse below in
         rw (greater_before (key x) (key (get_or s i 0)) greater, sh.below i (omega arith)) (ap (λ (ps : List Pair). pair (get_or s i 0) ∷ ps) (passed d k (suc i) (omega arith) (omega arith)))
 
     pub sorts_more : Sorts pair done n s → Sorts pair (done ++ (pair x ∷ [])) (suc n) t

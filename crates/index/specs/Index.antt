@@ -1,14 +1,12 @@
 -- An ordered index of the keys of the pairs so far. Assumes nothing.
-use Rattle.std.specs.Prelude.{ℕ, zero, suc, ◌+◌, ◌-◌, ◌/◌, ◌≤◌, ◌<◌, ◌≡◌, true, false, cond, List, [], ◌∷◌, leb, length, get_or}
+use Rattle.std.specs.Prelude.{ℕ, zero, suc, ◌-◌, ◌≤◌, ◌<◌, ◌≡◌, true, false, List, [], ◌∷◌, Result, Ok, Err, length, get_or}
+use Rattle.std.specs.declared.cmp.Ordering.{Ordering}
+use Rattle.std.specs.declared.cmp.Ordering.TheVariants.{Less, Equal, Greater}
 use Rattle.format.specs.Serialize.{same_bytes}
 use Rattle.format.specs.Fields.{Pair}
 use Rattle.format.specs.Context.{seen}
 use Rattle.format.specs.Sorted.{sort_pairs}
 use Rattle.comparing.specs.Order.{compare_bytes}
-use Rattle.comparing.specs.declared.Order.TheVariants.{Less, Greater}
-use Rattle.index.specs.declared.Halves.{Halves}
-use Rattle.index.specs.declared.Spot.{Spot}
-use Rattle.index.specs.declared.Spot.TheVariants.{Found, At}
 
 -- n numbers stand in s. The key of a number is `key`; `Good` is what the user knows of each number.
 pub record Index (key : ℕ → List ℕ) (Good : ℕ → Type 0) (done : List Pair) (n : ℕ) (s : List ℕ) : Type 0 where
@@ -40,16 +38,29 @@ pub record Between (key : ℕ → List ℕ) (n : ℕ) (s k : List ℕ) (p : ℕ)
   pub above : (r : ℕ) → p ≤ r → r < n → compare_bytes (key (get_or s r 0)) k ≡ Greater
 
 -- what a search for a key finds
-abbrev pub Finds : (ℕ → List ℕ) → ℕ → List ℕ → List ℕ → Spot → Type 0
-Finds key n s k (Found p) = Stands key n s k p
-Finds key n s k (At p) = Between key n s k p
+abbrev pub Finds : (ℕ → List ℕ) → ℕ → List ℕ → List ℕ → Result ℕ ℕ → Type 0
+Finds key n s k (Ok p) = Stands key n s k p
+Finds key n s k (Err p) = Between key n s k p
 
-pub record Sought (key : ℕ → List ℕ) (n : ℕ) (s k : List ℕ) (r : Spot) : Type 0 where
+pub record Sought (key : ℕ → List ℕ) (n : ℕ) (s k : List ℕ) (r : Result ℕ ℕ) : Type 0 where
   pub finds : Finds key n s k r
 
--- a search between two places goes on in the middle
-abbrev pub between : ℕ → ℕ → Halves
-between lo hi = record { lo = lo; hi = hi; mid = lo + (hi - lo) / 2 }
+-- the comparison may give `Equal` at a place of s
+pub record Hit (is : ℕ → Ordering → Type 0) (s : List ℕ) (p : ℕ) : Type 0 where
+  pub within : p < length s
+  pub here : is (get_or s p 0) Equal
+
+-- it may give `Less` in front of a place and `Greater` behind it
+pub record Gap (is : ℕ → Ordering → Type 0) (s : List ℕ) (lo hi : ℕ) : Type 0 where
+  pub meet : lo ≤ hi
+  pub within : hi ≤ length s
+  pub before : 0 < lo → is (get_or s (lo - 1) 0) Less
+  pub behind : hi < length s → is (get_or s hi 0) Greater
+
+-- where a search by comparison ends
+abbrev pub Placed : (ℕ → Ordering → Type 0) → List ℕ → Result ℕ ℕ → Type 0
+Placed is s (Ok p) = Hit is s p
+Placed is s (Err p) = Gap is s p p
 
 -- t is s with x put in at p, below n
 pub record Shifted (s t : List ℕ) (p n x : ℕ) : Type 0 where
@@ -61,6 +72,3 @@ pub record Shifted (s t : List ℕ) (p n x : ℕ) : Type 0 where
 pub record Copied (s t : List ℕ) : Type 0 where
   pub longer : length s ≤ length t
   pub same : (r : ℕ) → r < length s → get_or t r 0 ≡ get_or s r 0
-
-abbrev pub least_of : ℕ → ℕ → ℕ
-least_of a b = cond (leb a b) a b

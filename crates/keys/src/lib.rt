@@ -4,78 +4,43 @@
 pub mod section;
 
 ghost use Rattle.std.specs.Prelude.{◌≡◌, ◌<◌, length};
-ghost use Rattle.format.specs.Read.{at, operation};
+ghost use Rattle.format.specs.Read.{operation};
 ghost use Rattle.format.specs.Keys.{read_encrypted_data_keys_section_into};
 ghost use Rattle.format.specs.Lent.{key_numbers};
+ghost use Rattle.wire.specs.Buffer.{from};
 ghost use Rattle.request.specs.Codes.{max_of};
-ghost use Rattle.entries.specs.Codes.{Reads};
-ghost use Rattle.keys.specs.Codes.{keys_of, why_keys};
+ghost use Rattle.entries.specs.Codes.{Reads, counted};
 
-use request::{Max, Request};
-use wire::{Refusal, reading, refusals, refuse};
-
-// How many keys were read, and the tail; or the refusal.
-#[derive(Clone, Copy)]
-pub enum KeysAnswer {
-    Accepted { keyCount: u64, tail: u64 },
-    Refused(Refusal),
-}
-
-impl KeysAnswer {
-    // The refusal, where there is one.
-    pub fn refusal(self) -> Refusal
-        ensures { result ≡ why_keys self }
-    {
-        match self {
-            KeysAnswer::Accepted {
-                keyCount: _,
-                tail: _,
-            } => refuse(refusals::NONE),
-            KeysAnswer::Refused(r) => r,
-        }
-    }
-}
-
-fn accepted(keyCount: u64, tail: u64) -> KeysAnswer
-    ensures { result ≡ KeysAnswer.Accepted keyCount tail }
-{
-    KeysAnswer::Accepted { keyCount, tail }
-}
-
-fn refused(number: u8) -> KeysAnswer
-    ensures { result ≡ KeysAnswer.Refused (record { number = number; position = 0 }) }
-{
-    KeysAnswer::Refused(refuse(number))
-}
+use request::Request;
+use wire::SuccessfulRead;
+use wire::buffer::ReadableBuffer;
+use wire::refusals::{Reason, Refusal};
 
 // A section at a place, and its key table, which is filled last: a refusal leaves it.
-fn section_into(m: &[u8], start: u64, max: Max, table: &mut [u32]) -> KeysAnswer
-    requires { (start < 4294967296) × (length m.now < 4294967296) }
-    ensures { Reads keys_of key_numbers (at (read_encrypted_data_keys_section_into (max_of max) (length table.old)) m.now start) table.old table.new result }
+// Why it is not one function with `context`'s is said there.
+fn section_into(
+    buffer: ReadableBuffer,
+    max: Option<u64>,
+    table: &mut [u32],
+) -> Result<SuccessfulRead<u64>, Refusal>
+    ensures { Reads counted key_numbers (from (read_encrypted_data_keys_section_into (max_of max) (length table.old)) buffer.entry) table.old table.new result }
 {
-    let a = section::keys_at(m, start, max);
-    let KeysAnswer::Accepted { keyCount, tail } = a else {
-        return a;
-    };
-    if ((table.len() / 6) as u64) < keyCount {
-        return refused(refusals::KEY_TABLE_TOO_SHORT);
+    let keys = section::keys_at(buffer, max)?;
+    if ((table.len() / 6) as u64) < keys.value {
+        return Err(Reason::KeyTableTooShort.into());
     }
-    entries::fill_places(m, start + 2, 3 * keyCount, table);
-    accepted(keyCount, tail)
+    entries::fill_places(buffer.bytes, buffer.start + 2, 3 * keys.value, table);
+    Ok(keys)
 }
 
-// ReadEncryptedDataKeysSection: the places of the keys go into the table, six numbers a key.
+// ReadEncryptedDataKeysSection, likewise: how many keys there are. The places of the keys go into the table, six numbers a key.
 pub fn read_encrypted_data_keys_section(
     m: &[u8],
     start: u64,
     request: Request,
     table: &mut [u32],
-) -> KeysAnswer
-    ensures { Reads keys_of key_numbers (operation (read_encrypted_data_keys_section_into (max_of request.max) (length table.old)) m.now start) table.old table.new result }
+) -> Result<SuccessfulRead<u64>, Refusal>
+    ensures { Reads counted key_numbers (operation (read_encrypted_data_keys_section_into (max_of request.max) (length table.old)) m.now start) table.old table.new result }
 {
-    let max = request.max;
-    if reading::is_addressable(m, start) {
-        return section_into(m, start, max, table);
-    }
-    refused(refusals::NOT_ADDRESSABLE)
+    section_into(ReadableBuffer::new(m, start)?, request.max, table)
 }

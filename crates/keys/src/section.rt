@@ -1,101 +1,59 @@
 // A key section at a place of a message, without refusal 1 and without its table.
 ghost use Rattle.std.specs.Prelude.{◌≡◌, [], ◌≤◌, ◌<◌, length};
-ghost use Rattle.format.specs.Read.{at, repeat};
+ghost use Rattle.format.specs.Read.{repeat};
 ghost use Rattle.format.specs.Keys.{within as is_within, read_encrypted_data_key, read_encrypted_data_keys_section};
+ghost use Rattle.wire.specs.Buffer.{from};
 ghost use Rattle.request.specs.Codes.{max_of};
-ghost use Rattle.entries.specs.Codes.{next_of};
-ghost use Rattle.keys.specs.Codes.{keys_of, any_key};
+ghost use Rattle.entries.specs.Codes.{next_of, counted};
+ghost use Rattle.keys.specs.Codes.{any_key};
 
-use super::{KeysAnswer, accepted, refused};
-use entries::Next;
-use request::Max;
-use wire::{End, Number, Span, reading, refusals};
+use wire::SuccessfulRead;
+use wire::buffer::ReadableBuffer;
+use wire::refusals::{Reason, Refusal};
 
 // The maximum is not passed by that many keys.
-fn within(max: Max, count: u64) -> bool
+fn within(max: Option<u64>, count: u64) -> bool
     ensures { result ≡ is_within count (max_of max) }
 {
-    match max {
-        Max::None => true,
-        Max::AtMost(n) => count <= n,
-    }
+    max.is_none_or(|n| count <= n)
 }
 
 // ReadEncryptedDataKey: provider ID, provider info, ciphertext. A key section stores no length that could end them.
-fn read_key(m: &[u8], s: u64) -> Next
-    requires { (s < 4294967296) × (length m.now < 4294967296) }
-    ensures { result ≡ next_of (at read_encrypted_data_key m.now s) }
+fn read_key(buffer: ReadableBuffer) -> Result<u64, Refusal>
+    ensures { result ≡ next_of (from read_encrypted_data_key buffer.entry) }
 {
-    let p = reading::read_text(m, s, End::None, refusals::PROVIDER_ID_NOT_UTF8);
-    let Span::At {
-        start: _,
-        len: _,
-        tail: second,
-    } = p
-    else {
-        return Next::Not(p.refusal());
-    };
-    let i = reading::read_entry(m, second, End::None);
-    let Span::At {
-        start: _,
-        len: _,
-        tail: third,
-    } = i
-    else {
-        return Next::Not(i.refusal());
-    };
-    let c = reading::read_entry(m, third, End::None);
-    let Span::At {
-        start: _,
-        len: _,
-        tail,
-    } = c
-    else {
-        return Next::Not(c.refusal());
-    };
-    Next::At(tail)
+    let id = buffer.read_text(None, Reason::ProviderIdNotUtf8)?;
+    let info = buffer.at(id.tail).read_entry(None)?;
+    let ciphertext = buffer.at(info.tail).read_entry(None)?;
+    Ok(ciphertext.tail)
 }
 
 // ReadEncryptedDataKeys: where the `count` keys from `first` on end.
-fn read_keys(m: &[u8], first: u64, count: u64) -> Next
-    requires { (first ≤ length m.now) × (length m.now < 4294967296) }
-    ensures { result ≡ next_of (at (repeat count any_key []) m.now first) }
+fn read_keys(buffer: ReadableBuffer, count: u64) -> Result<u64, Refusal>
+    requires { buffer.start ≤ length buffer.bytes.now }
+    ensures { result ≡ next_of (from (repeat count any_key []) buffer.entry) }
 {
-    let mut i: u64 = 0;
-    let mut s = first;
-    while i < count {
-        let n = read_key(m, s);
-        let Next::At(t) = n else {
-            return n;
-        };
-        s = t;
-        i += 1;
+    let mut s = buffer.start;
+    for _ in 0..count {
+        s = read_key(buffer.at(s))?;
     }
-    Next::At(s)
+    Ok(s)
 }
 
 // ReadEncryptedDataKeysSection at a place: the count is tested before any key is read.
-pub fn keys_at(m: &[u8], start: u64, max: Max) -> KeysAnswer
-    requires { (start < 4294967296) × (length m.now < 4294967296) }
-    ensures { result ≡ keys_of (at (read_encrypted_data_keys_section (max_of max)) m.now start) }
+pub fn keys_at(buffer: ReadableBuffer, max: Option<u64>) -> Result<SuccessfulRead<u64>, Refusal>
+    ensures { result ≡ counted (from (read_encrypted_data_keys_section (max_of max)) buffer.entry) }
 {
-    let x = reading::read_u16(m, start);
-    let Number::Is {
-        value: count,
-        tail: first,
-    } = x
-    else {
-        return KeysAnswer::Refused(x.refusal());
-    };
-    if count == 0 {
-        return refused(refusals::NO_ENCRYPTED_DATA_KEY);
+    let count = buffer.read_uint::<u16>()?;
+    if count.value == 0 {
+        return Err(Reason::NoEncryptedDataKey.into());
     }
-    if within(max, count) {
-        let e = read_keys(m, first, count);
-        let Next::At(tail) = e else {
-            return KeysAnswer::Refused(e.refusal());
-        };
-        return accepted(count, tail);
+    if !within(max, count.value) {
+        return Err(Reason::TooManyKeys.into());
     }
-    refused(refusals::TOO_MANY_KEYS)
+    let tail = read_keys(buffer.at(count.tail), count.value)?;
+    Ok(SuccessfulRead {
+        value: count.value,
+        tail,
+    })
 }

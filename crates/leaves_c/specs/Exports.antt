@@ -1,5 +1,5 @@
 -- What crosses the boundary, of what the definitions answer. Assumes nothing.
-use Rattle.std.specs.Prelude.{ℕ, ◌+◌, Bool, true, false, cond, ◌&&◌, List, leb, eqb, length}
+use Rattle.std.specs.Prelude.{ℕ, ◌+◌, Bool, true, false, cond, ◌&&◌, List, leb, eqb, length, Option, Some, None, Result, Ok, Err}
 use Rattle.format.specs.Read.{Answer}
 use Rattle.format.specs.Serialize.{Part, same_bytes, write_short_length_seq}
 use Rattle.format.specs.Utf8.{valid_utf8_seq}
@@ -7,28 +7,25 @@ use Rattle.format.specs.Lent.{bytes_at}
 use Rattle.wire.specs.Codes.{number_of, span_of}
 use Rattle.comparing.specs.Order.{compare_bytes}
 use Rattle.wire.specs.Stored.{stored}
-use Rattle.wire.specs.declared.Number.{Number}
-use Rattle.wire.specs.declared.Number.TheVariants as number
+use Rattle.wire.specs.declared.refusals.Refusal.{Refusal}
+use Rattle.wire.specs.declared.SuccessfulRead.{SuccessfulRead}
 use Rattle.wire.specs.declared.Span.{Span}
-use Rattle.wire.specs.declared.Span.TheVariants as span
-use Rattle.wire.specs.declared.End.{End}
-use Rattle.wire.specs.declared.End.TheVariants as end
-use Rattle.comparing.specs.declared.Order.{Order}
-use Rattle.comparing.specs.declared.Order.TheVariants.{Less, Equal, Greater}
+use Rattle.std.specs.declared.cmp.Ordering.{Ordering}
+use Rattle.std.specs.declared.cmp.Ordering.TheVariants.{Less, Equal, Greater}
 use Rattle.leaves_c.specs.declared.LeafNumber.{LeafNumber}
 use Rattle.leaves_c.specs.declared.LeafPart.{LeafPart}
 
 -- the end that a host asks for: a number that is 0 where there is none, and its place
-abbrev pub end_asked : ℕ → ℕ → End
-end_asked hasEnd place = cond (eqb hasEnd 0) end.None (end.At place)
+abbrev pub end_asked : ℕ → ℕ → Option ℕ
+end_asked hasEnd place = cond (eqb hasEnd 0) None (Some place)
 
-abbrev pub number_fields : Number → LeafNumber
-number_fields (number.Is v t) = record { refusal = 0; position = 0; value = v; tail = t }
-number_fields (number.Not r) = record { refusal = r.number; position = r.position; value = 0; tail = 0 }
+abbrev pub number_fields : Result (SuccessfulRead ℕ) Refusal → LeafNumber
+number_fields (Ok r) = record { refusal = 0; position = 0; value = r.value; tail = r.tail }
+number_fields (Err q) = record { refusal = q.number; position = q.position; value = 0; tail = 0 }
 
-abbrev pub part_fields : Span → LeafPart
-part_fields (span.At s n t) = record { refusal = 0; position = 0; start = s; len = n; tail = t }
-part_fields (span.Not r) = record { refusal = r.number; position = r.position; start = 0; len = 0; tail = 0 }
+abbrev pub part_fields : Result Span Refusal → LeafPart
+part_fields (Ok r) = record { refusal = 0; position = 0; start = r.start; len = r.len; tail = r.tail }
+part_fields (Err q) = record { refusal = q.number; position = q.position; start = 0; len = 0; tail = 0 }
 
 abbrev pub number_record : Answer ℕ → LeafNumber
 number_record o = number_fields (number_of o)
@@ -40,7 +37,7 @@ abbrev pub truth : Bool → ℕ
 truth true = 1
 truth false = 0
 
-abbrev pub order_number : Order → ℕ
+abbrev pub order_number : Ordering → ℕ
 order_number Less = 0
 order_number Equal = 1
 order_number Greater = 2

@@ -1,4 +1,5 @@
-// The leaves for a host program in C or Rust: numbers and structs of numbers cross the boundary by value.
+// The leaves for a host program in C or Rust: numbers and structs of numbers cross the boundary by value. C has no generic function: an
+// export for each width.
 #![tactic(auto)]
 
 ghost use Rattle.std.specs.Prelude.{◌≡◌, ◌+◌, leb};
@@ -8,9 +9,10 @@ ghost use Rattle.format.specs.Shared.{suite_version};
 ghost use Rattle.wire.specs.Codes.{end_of};
 ghost use Rattle.leaves_c.specs.Exports.{end_asked, number_record, part_record, number_fields, part_fields, truth, order_number, utf8_number, same_number, compare_number, can_put, put_number, put_output};
 
-use comparing::Order;
-use suites::{Suite, SuiteAnswer};
-use wire::{End, Number, Span};
+use std::cmp::Ordering;
+use suites::Suite;
+use wire::refusals::Refusal;
+use wire::{Span, SuccessfulRead, operations};
 
 // A number that was read: refusal 0 where it was accepted.
 #[repr(C)]
@@ -33,43 +35,47 @@ pub struct LeafPart {
     pub tail: u64,
 }
 
-fn number_record(x: Number) -> LeafNumber
-    ensures { result ≡ number_fields x }
-{
-    match x {
-        Number::Is { value, tail } => LeafNumber {
-            refusal: 0,
-            position: 0,
-            value,
-            tail,
-        },
-        Number::Not(q) => LeafNumber {
-            refusal: q.number as u64,
-            position: q.position,
-            value: 0,
-            tail: 0,
-        },
+impl From<Result<SuccessfulRead<u64>, Refusal>> for LeafNumber {
+    ghost from_gives = { λ x r. r ≡ number_fields x };
+
+    fn from(number: Result<SuccessfulRead<u64>, Refusal>) -> LeafNumber {
+        match number {
+            Ok(SuccessfulRead { value, tail }) => LeafNumber {
+                refusal: 0,
+                position: 0,
+                value,
+                tail,
+            },
+            Err(q) => LeafNumber {
+                refusal: u64::from(q.number),
+                position: q.position,
+                value: 0,
+                tail: 0,
+            },
+        }
     }
 }
 
-fn part_record(x: Span) -> LeafPart
-    ensures { result ≡ part_fields x }
-{
-    match x {
-        Span::At { start, len, tail } => LeafPart {
-            refusal: 0,
-            position: 0,
-            start,
-            len,
-            tail,
-        },
-        Span::Not(q) => LeafPart {
-            refusal: q.number as u64,
-            position: q.position,
-            start: 0,
-            len: 0,
-            tail: 0,
-        },
+impl From<Result<Span, Refusal>> for LeafPart {
+    ghost from_gives = { λ x r. r ≡ part_fields x };
+
+    fn from(part: Result<Span, Refusal>) -> LeafPart {
+        match part {
+            Ok(Span { start, len, tail }) => LeafPart {
+                refusal: 0,
+                position: 0,
+                start,
+                len,
+                tail,
+            },
+            Err(q) => LeafPart {
+                refusal: u64::from(q.number),
+                position: q.position,
+                start: 0,
+                len: 0,
+                tail: 0,
+            },
+        }
     }
 }
 
@@ -78,72 +84,56 @@ fn part_record(x: Span) -> LeafPart
 pub extern "C" fn leaf_suite_version(number: u32) -> u8
     ensures { result ≡ suite_version number }
 {
-    let s = Suite::from_number(number);
-    let SuiteAnswer::Known(known) = s else {
-        return 0;
-    };
-    known.version
+    Suite::from_number(number).map_or(0, |suite| suite.version)
 }
 
 #[unsafe(no_mangle)]
 pub extern "C" fn leaf_read_u8(m: &[u8], start: u64) -> LeafNumber
     ensures { result ≡ number_record (operation read_uint8 m.now start) }
 {
-    number_record(wire::operations::read_u8(m, start))
+    operations::read_uint::<u8>(m, start).into()
 }
 
 #[unsafe(no_mangle)]
 pub extern "C" fn leaf_read_u16(m: &[u8], start: u64) -> LeafNumber
     ensures { result ≡ number_record (operation read_uint16 m.now start) }
 {
-    number_record(wire::operations::read_u16(m, start))
+    operations::read_uint::<u16>(m, start).into()
 }
 
 #[unsafe(no_mangle)]
 pub extern "C" fn leaf_read_u32(m: &[u8], start: u64) -> LeafNumber
     ensures { result ≡ number_record (operation read_uint32 m.now start) }
 {
-    number_record(wire::operations::read_u32(m, start))
+    operations::read_uint::<u32>(m, start).into()
 }
 
 #[unsafe(no_mangle)]
 pub extern "C" fn leaf_read_bytes(m: &[u8], start: u64, n: u32) -> LeafPart
     ensures { result ≡ part_record (read_operation n m.now start) }
 {
-    part_record(wire::operations::read_bytes(m, start, n))
+    operations::read_bytes(m, start, n).into()
 }
 
-// 0: no end; any other: the place `end`.
-fn end_asked(hasEnd: u32, end: u64) -> End
+// 0: no end; any other: the place `end`. C has no `Option`.
+fn end_asked(hasEnd: u32, end: u64) -> Option<u64>
     ensures { result ≡ end_asked hasEnd end }
 {
-    if hasEnd == 0 {
-        return End::None;
-    }
-    End::At(end)
+    (hasEnd != 0).then_some(end)
 }
 
 #[unsafe(no_mangle)]
 pub extern "C" fn leaf_read_entry(m: &[u8], start: u64, hasEnd: u32, end: u64) -> LeafPart
     ensures { result ≡ part_record (operation (read_short_length_seq (end_of (end_asked hasEnd end))) m.now start) }
 {
-    part_record(wire::operations::read_entry(m, start, end_asked(hasEnd, end)))
+    operations::read_entry(m, start, end_asked(hasEnd, end)).into()
 }
 
 // Whether a part lies within so many bytes.
 fn lies_within(start: u64, len: u64, total: u64) -> bool
     ensures { result ≡ leb (start + len) total }
 {
-    if total < start {
-        return false;
-    }
-    len <= total - start
-}
-
-fn truth_number(b: bool) -> u8
-    ensures { result ≡ truth b }
-{
-    if b { 1 } else { 0 }
+    start <= total && len <= total - start
 }
 
 // 1 where the part is UTF-8, 0 where it is not, 3 where it does not lie within m.
@@ -152,7 +142,7 @@ pub extern "C" fn leaf_is_utf8(m: &[u8], start: u64, len: u64) -> u8
     ensures { result ≡ utf8_number m.now start len }
 {
     if lies_within(start, len, m.len() as u64) {
-        return truth_number(utf8::part_is_utf8(m, start, len));
+        return u8::from(utf8::part_is_utf8(m, start, len));
     }
     3
 }
@@ -162,22 +152,20 @@ pub extern "C" fn leaf_is_utf8(m: &[u8], start: u64, len: u64) -> u8
 pub extern "C" fn leaf_same_parts(m: &[u8], a: u64, alen: u64, b: u64, blen: u64) -> u8
     ensures { result ≡ same_number m.now a alen b blen }
 {
-    if lies_within(a, alen, m.len() as u64) {
-        if lies_within(b, blen, m.len() as u64) {
-            return truth_number(comparing::same_parts(m, a, alen, b, blen));
-        }
-        return 3;
+    if lies_within(a, alen, m.len() as u64) && lies_within(b, blen, m.len() as u64) {
+        return u8::from(comparing::same_parts(m, a, alen, b, blen));
     }
     3
 }
 
-fn order_number(o: Order) -> u8
+// The numbers that C has for them.
+fn order_number(o: Ordering) -> u8
     ensures { result ≡ order_number o }
 {
     match o {
-        Order::Less => 0,
-        Order::Equal => 1,
-        Order::Greater => 2,
+        Ordering::Less => 0,
+        Ordering::Equal => 1,
+        Ordering::Greater => 2,
     }
 }
 
@@ -186,11 +174,8 @@ fn order_number(o: Order) -> u8
 pub extern "C" fn leaf_compare_parts(m: &[u8], a: u64, alen: u64, b: u64, blen: u64) -> u8
     ensures { result ≡ compare_number m.now a alen b blen }
 {
-    if lies_within(a, alen, m.len() as u64) {
-        if lies_within(b, blen, m.len() as u64) {
-            return order_number(comparing::compare_parts(m, a, alen, b, blen));
-        }
-        return 3;
+    if lies_within(a, alen, m.len() as u64) && lies_within(b, blen, m.len() as u64) {
+        return order_number(comparing::compare_parts(m, a, alen, b, blen));
     }
     3
 }
@@ -199,13 +184,7 @@ pub extern "C" fn leaf_compare_parts(m: &[u8], a: u64, alen: u64, b: u64, blen: 
 fn can_put(text: u64, start: u64, len: u64, out: u64, at: u64) -> bool
     ensures { result ≡ can_put text start len out at }
 {
-    if lies_within(start, len, text) {
-        if 65535 < len {
-            return false;
-        }
-        return lies_within(at, len + 2, out);
-    }
-    false
+    lies_within(start, len, text) && len <= 65535 && lies_within(at, len + 2, out)
 }
 
 // 1 where the entry was written; 0 where the part does not lie within the text, is above 65,535 bytes, or does not fit the output,

@@ -3,44 +3,43 @@
 
 ghost use Rattle.std.specs.Prelude.{◌≡◌, ◌≤◌, length};
 ghost use Rattle.format.specs.Lent.{filled};
-ghost use Rattle.io.specs.Counts.{IsPrefixLen};
 ghost use Rattle.listing_text.specs.Listing.{listing};
 
-use checks::WriteAnswer;
 use listing_text::write_listing;
+use std::io::Read;
 
-// The standard streams, by the C library's numbers.
-const STDIN_FILENO: i32 = 0;
-
-const STDOUT_FILENO: i32 = 1;
-
-const STDERR_FILENO: i32 = 2;
+// Fills the buffer from its front on, and gives how far. It ends where the input does, or where a read fails.
+fn fill<R: Read>(input: &mut R, buf: &mut [u8]) -> usize
+    ensures { (result ≤ length buf.new) × (length buf.new ≡ length buf.old) }
+{
+    let mut len = 0;
+    // A read gives as many bytes as there are: no `for` counts them.
+    while len < buf.len() {
+        match input.read(&mut buf[len..]) {
+            Ok(0) | Err(_) => break,
+            Ok(n) => len += n,
+        }
+    }
+    len
+}
 
 // The length of the listing, with which `out` then begins. So long an output has room for it whatever the message is, so that
 // nothing is refused.
 fn list(m: &[u8], out: &mut [u8]) -> usize
     requires { (length m.now ≤ 65536) × (length out.old ≡ 262144) }
-    ensures { (result ≡ length (listing m.now)) × (out.new ≡ filled (listing m.now) out.old) × IsPrefixLen result out.new }
+    ensures { (result ≡ length (listing m.now)) × (out.new ≡ filled (listing m.now) out.old) × (result ≤ length out.new) }
 {
-    let answer = write_listing(m, out);
-    match answer {
-        WriteAnswer::Written(len) => len,
-        WriteAnswer::Refused(_) => 0,
-    }
+    write_listing(m, out).unwrap()
 }
 
-// The exit status is 0 either way, so a listing that could not be written whole is told from one that was by what is said here.
-fn complain() {
-    let said = b"listing: standard output could not be written\n";
-    io::write_all(STDERR_FILENO, said);
-}
-
-fn main() {
+// Both buffers are arrays, since the project has no heap.
+fn main(rt: HostRuntime) {
     let mut buf = [0u8; 65536];
-    let n = io::read_full(STDIN_FILENO, &mut buf);
+    let len = fill(&mut rt.reader(), &mut buf);
     let mut out = [0u8; 262144];
-    let len = list(&buf[..n], &mut out);
-    if !io::write_all(STDOUT_FILENO, &out[..len]) {
-        complain();
+    let len = list(&buf[..len], &mut out);
+    // The exit status is 0 either way, so a listing that could not be written whole is told from one that was by what is said here.
+    if rt.write_all(&out[..len]).is_err() {
+        let _ = eprintln!(rt; "listing: standard output could not be written");
     }
 }

@@ -1,89 +1,77 @@
 -- A text written whole, or not at all. Assumes nothing.
-use mathlib.Core.Path.{◌≡◌, refl, sym, ap, ◌∙◌}
+use mathlib.Core.Path.{◌≡◌, refl, ap, ◌∙◌}
 use mathlib.Core.Bool.{Bool, true, false}
 use mathlib.Core.List.{List}
 use Prim.Native.Nat.{ℕ, ◌≤◌, ◌<◌}
 use native.Mathlib.Nat.{zero-add}
 use native.Mathlib.Omega.{arith}
 use lib.Dec.{leb}
-use lib.ListN.{length, take, length-append}
-use lib.Seq.{length-take-le}
+use lib.ListN.{length, length-append}
 use borrow.Author.Tests.{le-leb, lt-leb, eq-eqb, ne_eqb}
 use Rattle.format.specs.Checks.{first}
 use Rattle.format.specs.Lent.{refusal_of, filled}
 use Rattle.wire.specs.Codes.{because}
 use Rattle.wire.specs.Stored.{stored}
-use Rattle.checks.specs.declared.WriteAnswer.{WriteAnswer}
-use Rattle.checks.specs.declared.WriteAnswer.TheVariants.{Written, Refused}
+use Rattle.std.specs.Prelude.{Result, Ok, Err}
+use Rattle.wire.specs.declared.refusals.Refusal.{Refusal}
+use Rattle.text.specs.declared.Text.{Text}
 use Rattle.text.specs.Put.{Room, Put}
 use Rattle.listing_text.specs.Listing.{word_data}
-use Rattle.listing_text.specs.Answers.{Lists, part_text, data_text, body_text, body_size, BodyThere}
-use Rattle.body_reader.specs.declared.HeaderBody.{HeaderBody}
+use Rattle.listing_text.specs.Answers.{Lists, part_text, data_text}
 use Rattle.text.proofs.Puts.{put_nothing}
-use Rattle.listing_text.proofs.TextSizes.{text_long}
 
-module _ (text d : List ℕ) where
-  pub too_long : (size : ℕ) → size ≡ length text → length d < size → (r : WriteAnswer) → r ≡ Refused (because 28 0) → Lists text d d r
+module _ (added d : List ℕ) where
+  pub too_long : (size : ℕ) → size ≡ length added → length d < size → (q : Refusal) → q ≡ because 28 0 → Lists added d d (Err q)
   unfolding refusal_of first
-  too_long size e h r f =
-      let no = lt-leb (length text) (length d) (omega arith) in
-      record { answer = rw no f; output = rw no refl }
+  too_long size e h q f =
+      let no = lt-leb (length added) (length d) (omega arith) in
+      record { answer = rw no (ap Err f); output = rw no refl }
 
-  pub has_room : (size : ℕ) → size ≡ length text → size ≤ length d → Room d 0 text
-  has_room size e h = record { fits = omega arith }
+  module _ (fits : length added ≤ length d) (t : Text) (empty : (t.out.now ≡ d) × (t.at ≡ 0)) where
+    pub has_room : Room t added
+    has_room = record { fits = rw empty.0 (omega (arith, empty.1)) }
 
-  pub all_written : (o : List ℕ) (r : ℕ) → Put text d 0 o r → Lists text d o (Written r)
-  unfolding refusal_of first stored
-  all_written o r p =
-      let yes = le-leb (length text) (length d) (omega (arith, p.fits.fits)) in
-      let n : r ≡ length text = omega (arith, p.ends) in
-      record { answer = rw yes (ap Written n); output = rw yes (p.holds ∙ rw zero-add) }
+    pub all_written : (u : Text) → Put added t u → (r : ℕ) → r ≡ u.at → (o : List ℕ) → o ≡ u.out.now → Lists added d o (Ok r)
+    unfolding refusal_of first stored
+    all_written u p r f o q =
+        let yes = le-leb (length added) (length d) fits in
+        let n : r ≡ length added = omega (arith, p.ends, empty.1) in
+        record { answer = rw yes (ap Ok n); output = rw yes (q ∙ p.holds ∙ rw (empty.0, empty.1, zero-add)) }
 
 -- the suite data's line, by version
-module _ (m : List ℕ) (version start n : ℕ) (d : List ℕ) (s : ℕ) where
+module _ (m : List ℕ) (version start n : ℕ) (t : Text) where
   module _ (e : version ≡ 2) where
-    pub data_room : Room d s (data_text m version start n) → Room d s (part_text m word_data start n)
+    pub data_room : Room t (data_text m version start n) → Room t (part_text m word_data start n)
     unfolding data_text
     data_room h = rw (eq-eqb version 2 e) at h
 
-    pub data_put : (o : List ℕ) (r : ℕ) → Put (part_text m word_data start n) d s o r → Put (data_text m version start n) d s o r
+    pub data_put : (u : Text) → Put (part_text m word_data start n) t u → Put (data_text m version start n) t u
     unfolding data_text
-    data_put o r p = rw (eq-eqb version 2 e) p
+    data_put u p = rw (eq-eqb version 2 e) p
 
-  pub no_data : (version ≡ 2 → ⊥) → Room d s (data_text m version start n) → Put (data_text m version start n) d s d s
+  pub no_data : (version ≡ 2 → ⊥) → Room t (data_text m version start n) → Put (data_text m version start n) t t
   unfolding data_text
-  no_data e h = rw (ne_eqb version 2 e) (put_nothing d s (omega (arith, h.fits)))
-
--- the same of a header, by its size in numbers
-module _ (m : List ℕ) (b : HeaderBody) (tail : ℕ) (pairs keys : List ℕ) (w : BodyThere m b pairs keys) (d : List ℕ) (size : ℕ) (e : size ≡ body_size b tail pairs keys) where
-  pub body_too_long : length d < size → (r : WriteAnswer) → r ≡ Refused (because 28 0) → Lists (body_text m b tail pairs keys) d d r
-  body_too_long h r f = too_long (body_text m b tail pairs keys) d size (text_long m b tail pairs keys w size e) h r f
-
-  pub body_has_room : size ≤ length d → Room d 0 (body_text m b tail pairs keys)
-  body_has_room h = has_room (body_text m b tail pairs keys) d size (text_long m b tail pairs keys w size e) h
+  no_data e h = rw (ne_eqb version 2 e) (put_nothing t (omega (arith, h.fits)))
 
 -- what was written lies within the output
-pub within_output : (text d o : List ℕ) (r : WriteAnswer) (n : ℕ) → Lists text d o r → r ≡ Written n → n ≤ length o
+pub within_output : (text d o : List ℕ) (r : Result ℕ Refusal) (n : ℕ) → Lists text d o r → r ≡ Ok n → n ≤ length o
 unfolding refusal_of first
 within_output text d o r n l e = go (leb (length text) (length d)) refl
   where
     go : (t : Bool) → leb (length text) (length d) ≡ t → n ≤ length o
     go true q =
-        let a : r ≡ Written (length text) = rw q at l.answer in
+        let a : r ≡ Ok (length text) = rw q at l.answer in
         let b : o ≡ filled text d = rw q at l.output in
         let c : n ≡ length text = cc in
         rw (b, length-append) (omega arith)
     go false q =
-        let a : r ≡ Refused (because 28 0) = rw q at l.answer in
+        let a : r ≡ Err (because 28 0) = rw q at l.answer in
         let z : ◌≡◌ {A = ℕ} 0 1 = cc in
         absurd (omega arith)
 
-pub written_counts : (text d o : List ℕ) (r : WriteAnswer) (n : ℕ) → Lists text d o r → r ≡ Written n → n ≡ length (take n o)
-written_counts text d o r n l e = sym (length-take-le n o (within_output text d o r n l e))
-
 -- a text that fits is written whole
-module _ (text d o : List ℕ) (r : WriteAnswer) (l : Lists text d o r) (h : length text ≤ length d) where
-  pub fitting_answer : r ≡ Written (length text)
+module _ (text d o : List ℕ) (r : Result ℕ Refusal) (l : Lists text d o r) (h : length text ≤ length d) where
+  pub fitting_answer : r ≡ Ok (length text)
   unfolding refusal_of first
   fitting_answer = rw (le-leb (length text) (length d) h) at l.answer
 

@@ -32,7 +32,8 @@ use Rattle.listing_text.specs.Listing.{hex_field, lines, word_id, word_pair, wor
 use Rattle.listing_text.specs.Bound.{ListingFits}
 use Rattle.text.proofs.Decimals.{decimal_few}
 use Rattle.listing_text.proofs.Joint.{few_bytes}
-use Rattle.listing_text.proofs.SizeLaws.{hex_long, field_long, line_long, header_long, refusal_long}
+use Rattle.text.proofs.Sizes.{hex_long, field_long, line_long}
+use Rattle.listing_text.proofs.SizeLaws.{header_long, refusal_long}
 
 -- a line for each item, and the item's bytes
 hex_field_long : (p : Part) → length (hex_field p) ≡ 1 + 2 * length p.bytes

@@ -1,121 +1,91 @@
 // The lines that are one in a listing: the header's, the parts by themselves, the refusal's.
-ghost use Rattle.std.specs.Prelude.{◌++◌};
-ghost use Rattle.format.specs.Lent.{bytes_at};
+ghost use Rattle.std.specs.Prelude.{◌≡◌, ◌++◌, ◌+◌, ◌*◌, ◌≤◌, ◌<◌, length};
 ghost use Rattle.text.specs.Text.{hex, field, line, decimal_field};
-ghost use Rattle.listing_text.specs.Listing.{number_field, number_fields, header_fields, word_header, word_refused};
-ghost use Rattle.text.specs.Put.{Room, Put, There};
+ghost use Rattle.listing_text.specs.Listing.{number_fields, refusal_listing};
+ghost use Rattle.listing_text.specs.Answers.{header_fields_of, header_text};
+ghost use Rattle.text.specs.Put.{Room, Put};
 
-use text::fields::{put_decimal_field, put_hex_field, put_line_end, put_word};
+use super::Listed;
+use fields::BodyNumbers;
+use text::Text;
+use text::numerals::decimal_size;
+use wire::refusals::Refusal;
 
-// A number of one byte, in its two digits.
-fn put_u8_field(x: u32, out: &mut [u8], at: usize) -> usize
-    requires { Room out.old at (number_field 1 x) }
-    ensures { Put (number_field 1 x) out.old at out.new result }
+// Type, suite and content type, as they are stored: in one byte, two and one.
+fn put_number_fields(numbers: BodyNumbers, text: &mut Text<'_>)
+    requires { Room text.old (number_fields numbers.messageType numbers.suite numbers.contentType) }
+    ensures { Put (number_fields numbers.messageType numbers.suite numbers.contentType) text.old text.new }
 {
-    let bytes = [(x % 256) as u8];
-    put_hex_field(&bytes, 0, 1, out, at)
+    text.put_hex_field(&numbers.messageType.to_be_bytes()[3..]);
+    text.put_hex_field(&numbers.suite.to_be_bytes()[2..]);
+    text.put_hex_field(&numbers.contentType.to_be_bytes()[3..]);
 }
 
-// A number of two bytes, in its four digits.
-fn put_u16_field(x: u32, out: &mut [u8], at: usize) -> usize
-    requires { Room out.old at (number_field 2 x) }
-    ensures { Put (number_field 2 x) out.old at out.new result }
+fn put_decimal_fields(x: u64, y: u64, text: &mut Text<'_>)
+    requires { Room text.old (decimal_field x ++ decimal_field y) }
+    ensures { Put (decimal_field x ++ decimal_field y) text.old text.new }
 {
-    let bytes = [(x / 256 % 256) as u8, (x % 256) as u8];
-    put_hex_field(&bytes, 0, 2, out, at)
+    text.put_decimal_field(x);
+    text.put_decimal_field(y);
 }
 
-// Type, suite and content type.
-fn put_number_fields(
-    messageType: u32,
-    suite: u32,
-    contentType: u32,
-    out: &mut [u8],
-    at: usize,
-) -> usize
-    requires { Room out.old at (number_fields messageType suite contentType) }
-    ensures { Put (number_fields messageType suite contentType) out.old at out.new result }
+fn put_header_fields(numbers: BodyNumbers, tail: u64, text: &mut Text<'_>)
+    requires { Room text.old (header_fields_of numbers tail) }
+    ensures { Put (header_fields_of numbers tail) text.old text.new }
 {
-    let a = put_u8_field(messageType, out, at);
-    let b = put_u16_field(suite, out, a);
-    put_u8_field(contentType, out, b)
+    text.put_decimal_field(numbers.version as u64);
+    put_number_fields(numbers, text);
+    put_decimal_fields(numbers.frameLength as u64, tail, text);
 }
 
-fn put_decimal_fields(x: u64, y: u64, out: &mut [u8], at: usize) -> usize
-    requires { Room out.old at (decimal_field x ++ decimal_field y) }
-    ensures { Put (decimal_field x ++ decimal_field y) out.old at out.new result }
+// How long the line is, before it is put.
+pub fn header_size(numbers: BodyNumbers, tail: u64) -> usize
+    ensures { (result ≡ length (header_text numbers tail)) × (result ≤ 100) }
 {
-    let a = put_decimal_field(x, out, at);
-    put_decimal_field(y, out, a)
+    decimal_size(numbers.version as u64)
+        + decimal_size(numbers.frameLength as u64)
+        + decimal_size(tail)
+        + 21
 }
 
-fn put_header_fields(
-    version: u32,
-    messageType: u32,
-    suite: u32,
-    contentType: u32,
-    frameLength: u32,
-    tail: u64,
-    out: &mut [u8],
-    at: usize,
-) -> usize
-    requires { Room out.old at (header_fields version messageType suite contentType frameLength tail) }
-    ensures { Put (header_fields version messageType suite contentType frameLength tail) out.old at out.new result }
+pub fn put_header(numbers: BodyNumbers, tail: u64, text: &mut Text<'_>)
+    requires { Room text.old (header_text numbers tail) }
+    ensures { Put (header_text numbers tail) text.old text.new }
 {
-    let a = put_decimal_field(version as u64, out, at);
-    let b = put_number_fields(messageType, suite, contentType, out, a);
-    put_decimal_fields(frameLength as u64, tail, out, b)
+    text.put_word(b"header");
+    put_header_fields(numbers, tail, text);
+    text.put_line_end();
 }
 
-pub fn put_header(
-    version: u32,
-    messageType: u32,
-    suite: u32,
-    contentType: u32,
-    frameLength: u32,
-    tail: u64,
-    out: &mut [u8],
-    at: usize,
-) -> usize
-    requires { Room out.old at (line word_header (header_fields version messageType suite contentType frameLength tail)) }
-    ensures { Put (line word_header (header_fields version messageType suite contentType frameLength tail)) out.old at out.new result }
+pub fn part_size(word: &[u8], len: u64) -> usize
+    requires { (length word.now < 16) × (len < 4294967296) }
+    ensures { result ≡ length word.now + 2 + 2 * len }
 {
-    let a = put_word(b"header", out, at);
-    let b = put_header_fields(
-        version,
-        messageType,
-        suite,
-        contentType,
-        frameLength,
-        tail,
-        out,
-        a,
-    );
-    put_line_end(out, b)
+    word.len() + 2 + 2 * len as usize
 }
 
-// A part of the message on a line of its own.
-pub fn put_part_line(
-    m: &[u8],
-    word: &[u8],
-    start: usize,
-    len: usize,
-    out: &mut [u8],
-    at: usize,
-) -> usize
-    requires { There m.now start len × Room out.old at (line word.now (field (hex (bytes_at m.now start len)))) }
-    ensures { Put (line word.now (field (hex (bytes_at m.now start len)))) out.old at out.new result }
+// A part on a line of its own.
+pub fn put_part_line(word: &[u8], part: &[u8], text: &mut Text<'_>)
+    requires { Room text.old (line word.now (field (hex part.now))) }
+    ensures { Put (line word.now (field (hex part.now))) text.old text.new }
 {
-    let a = put_word(word, out, at);
-    let b = put_hex_field(m, start, len, out, a);
-    put_line_end(out, b)
+    text.put_word(word);
+    text.put_hex_field(part);
+    text.put_line_end();
 }
 
-pub fn put_refusal(number: u64, position: u64, out: &mut [u8], at: usize) -> usize
-    requires { Room out.old at (line word_refused (decimal_field number ++ decimal_field position)) }
-    ensures { Put (line word_refused (decimal_field number ++ decimal_field position)) out.old at out.new result }
-{
-    let a = put_word(b"refused", out, at);
-    let b = put_decimal_fields(number, position, out, a);
-    put_line_end(out, b)
+impl Listed for Refusal {
+    ghost image = { λ q. refusal_listing q.number q.position };
+
+    fn size(&self) -> usize {
+        decimal_size(self.number as u64) + decimal_size(self.position) + 10
+    }
+
+    fn put(&self, out: &mut [u8]) -> usize {
+        let mut text = Text::new(out);
+        text.put_word(b"refused");
+        put_decimal_fields(self.number as u64, self.position, &mut text);
+        text.put_line_end();
+        text.len()
+    }
 }

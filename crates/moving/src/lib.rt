@@ -1,4 +1,4 @@
-// Moves of bytes within one lent buffer, and clearing a part of it. Nothing else of the buffer changes.
+// Moves of bytes within one lent buffer, and clearing a part of it, by places as in `wire::writing`. Nothing else of the buffer changes.
 #![tactic(auto)]
 
 ghost use Rattle.std.specs.Prelude.{◌≡◌, ◌+◌, ◌-◌, ◌≤◌, length};
@@ -6,63 +6,20 @@ ghost use Rattle.format.specs.Auth.{zeros};
 ghost use Rattle.format.specs.Lent.{bytes_at};
 ghost use Rattle.wire.specs.Stored.{stored};
 
-use wire::writing::write;
-
-// Moves 32 bytes, which are all read before any is written: the two places may overlap.
-fn move_block(m: &mut [u8], from: usize, to: usize)
-    requires { (from + 32 ≤ length m.old) × (to + 32 ≤ length m.old) }
-    ensures { m.new ≡ stored m.old to (bytes_at m.old from 32) }
-{
-    let mut block = [0u8; 32];
-    write(m, from, 32, &mut block[..], 0);
-    write(&block[..], 0, 32, m, to);
-}
-
-// One byte after the other, the first one first: to a place before them.
-fn bytes_down(m: &mut [u8], from: usize, to: usize, len: usize)
-    requires { (to ≤ from) × (from + len ≤ length m.old) }
+// The two places may overlap: what is stored are the bytes that stood there before.
+#[tactic(auto, using(crate::proofs::Laws::moved_is))]
+pub fn move_bytes(m: &mut [u8], from: usize, to: usize, len: usize)
+    requires { (from + len ≤ length m.old) × (to + len ≤ length m.old) }
     ensures { m.new ≡ stored m.old to (bytes_at m.old from len) }
 {
-    let mut i: usize = 0;
-    while i < len {
-        m[to + i] = m[from + i];
-        i += 1;
-    }
-}
-
-// The same in blocks, as far as they go.
-pub fn move_down(m: &mut [u8], from: usize, to: usize, len: usize)
-    requires { (to ≤ from) × (from + len ≤ length m.old) }
-    ensures { m.new ≡ stored m.old to (bytes_at m.old from len) }
-{
-    let mut i: usize = 0;
-    while 32 <= len - i {
-        move_block(m, from + i, to + i);
-        i += 32;
-    }
-    bytes_down(m, from + i, to + i, len - i);
-}
-
-// The last byte first: to a place behind them.
-pub fn move_up(m: &mut [u8], from: usize, to: usize, len: usize)
-    requires { (from ≤ to) × (to + len ≤ length m.old) }
-    ensures { m.new ≡ stored m.old to (bytes_at m.old from len) }
-{
-    let mut i = len;
-    while 0 < i {
-        i -= 1;
-        m[to + i] = m[from + i];
-    }
+    m.copy_within(from..from + len, to);
 }
 
 // Makes the bytes from one place to another 00.
+#[tactic(auto, using(crate::proofs::Laws::cleared_is))]
 pub fn clear(m: &mut [u8], from: usize, to: usize)
     requires { (from ≤ to) × (to ≤ length m.old) }
     ensures { m.new ≡ stored m.old from (zeros (to - from)) }
 {
-    let mut i = from;
-    while i < to {
-        m[i] = 0;
-        i += 1;
-    }
+    m[from..to].fill(0);
 }

@@ -5,116 +5,99 @@
 mod marking;
 mod putting;
 
-ghost use Rattle.std.specs.Prelude.{◌≡◌, true, List, ◌+◌, ◌≤◌, ◌<◌, length};
-ghost use Rattle.format.specs.Read.{at, operation};
-ghost use Rattle.format.specs.Serialize.{every};
+ghost use Rattle.std.specs.Prelude.{◌≡◌, ◌≤◌, length};
+ghost use Rattle.format.specs.Read.{operation};
 ghost use Rattle.format.specs.Context.{write_empty_ec_or_write_aad};
-ghost use Rattle.format.specs.Lent.{parts_in, places, in_text};
+ghost use Rattle.format.specs.Lent.{parts_in};
 ghost use Rattle.format.specs.OnlyAuthenticated.{context_to_only_authenticate, write_only_authenticated as only_authenticated};
+ghost use Rattle.wire.specs.Buffer.{from};
 ghost use Rattle.entries.specs.Codes.{Reads};
 ghost use Rattle.checks.specs.Answers.{written_as, whole};
-ghost use Rattle.pair_index.specs.Index.{first_pairs};
-ghost use Rattle.context.specs.Stepping.{HasPairs, Lendable};
+ghost use Rattle.index.specs.Index.{Sorts};
+ghost use Rattle.pair_index.specs.Index.{first_pairs, pair_from};
+ghost use Rattle.context.specs.Stepping.{Lendable};
 ghost use Rattle.only_authenticated.specs.Codes.{Puts, Claims, Enough};
 ghost use Rattle.only_authenticated.specs.Marks.{Unmarked};
 
-use checks::tables::all_in_text;
-use checks::{WriteAnswer, refuses};
-use context::ContextAnswer;
+use checks::tables::{Parts, all_in_text};
 use context::section::indexed_context_at;
+use marking::mark_required;
+use pair_index::PairIndex;
+use putting::Marked;
 use request::Mode;
-use wire::reading;
-use wire::refusals::{NOT_ADDRESSABLE, REQUIRED_TABLE_OR_PLACE};
+use wire::buffer::ReadableBuffer;
+use wire::reading::Uint;
+use wire::refusals::{Reason, Refusal};
 
-// How many pairs are marked, and how many bytes they take.
-#[derive(Clone, Copy)]
-pub struct Total {
-    pub count: usize,
-    pub size: usize,
-}
-
-// The required ones of the n pairs that the index has.
+// The required ones of the pairs that the index has.
 fn select(
-    m: &[u8],
-    first: u64,
-    n: usize,
-    keys: &[u16],
-    text: &[u8],
-    required: &[u32],
-    marks: &mut [u8],
+    index: PairIndex,
+    required: Parts,
+    marks: &mut [bool],
     out: &mut [u8],
-) -> WriteAnswer
-    requires { HasPairs m.now first n keys.now × (length keys.now ≤ 16384) × (length keys.now ≡ length marks.old) × Unmarked (length marks.old) marks.old × (first < 4294967300) × (every (in_text text.now required.now) (places required.now) ≡ true) }
-    ensures { Puts (write_empty_ec_or_write_aad (context_to_only_authenticate (parts_in text.now required.now) (first_pairs m.now first n))) out.old out.new result }
+) -> Result<usize, Refusal>
+    requires { (length index.keys.now ≤ 16384) × (length index.keys.now ≡ length marks.old) × Unmarked marks.old × Sorts (pair_from index.m.now index.first) (first_pairs index.m.now index.first index.n) index.n index.keys.now }
+    ensures { Puts (write_empty_ec_or_write_aad (context_to_only_authenticate (parts_in required.entry.text.now required.entry.table.now) (first_pairs index.entry.m.now index.entry.first index.entry.n))) out.old out.new result }
 {
-    marking::mark_required(m, first, n, keys, text, required, marks);
-    putting::write_marked(m, first, n, keys, marks, out)
+    mark_required(index, required, marks);
+    Marked { index, marks }.write(out)
 }
 
 // The operation at a place, with an index that has room for the section's pairs, and a mark for each of its places.
 fn with_index(
-    m: &[u8],
-    start: u64,
+    buffer: ReadableBuffer,
     text: &[u8],
     required: &[u32],
     keys: &mut [u16],
-    marks: &mut [u8],
+    marks: &mut [bool],
     out: &mut [u8],
-) -> WriteAnswer
-    requires { (start < 4294967296) × (length m.now < 4294967296) × Lendable (length keys.old) × Enough m.now start (length keys.old) × (length keys.old ≤ 16384) × (length keys.old ≡ length marks.old) × Unmarked (length marks.old) marks.old }
-    ensures { Reads written_as whole (at (only_authenticated text.now required.now (length out.old)) m.now start) out.old out.new result }
+) -> Result<usize, Refusal>
+    requires { Lendable (length keys.old) × Enough buffer.bytes.now buffer.start (length keys.old) × (length keys.old ≤ 16384) × (length keys.old ≡ length marks.old) × Unmarked marks.old }
+    ensures { Reads written_as whole (from (only_authenticated text.now required.now (length out.old)) buffer.entry) out.old out.new result }
 {
-    let a = indexed_context_at(m, start, Mode::Tolerant, keys);
-    let ContextAnswer::Accepted { pairCount, tail: _ } = a else {
-        return WriteAnswer::Refused(a.refusal());
-    };
+    let pairs = indexed_context_at(buffer, Mode::Tolerant, keys)?;
     if required.len() % 2 != 0 {
-        return refuses(REQUIRED_TABLE_OR_PLACE);
+        return Err(Reason::RequiredTableOrPlace.into());
     }
-    if all_in_text(text, required) {
-        return select(
-            m,
-            start + 4,
-            pairCount as usize,
-            keys,
-            text,
-            required,
-            marks,
-            out,
-        );
+    if !all_in_text(text, required) {
+        return Err(Reason::RequiredTableOrPlace.into());
     }
-    refuses(REQUIRED_TABLE_OR_PLACE)
+    let index = PairIndex {
+        m: buffer.bytes,
+        first: buffer.start + 4,
+        n: pairs.value as usize,
+        keys,
+    };
+    let required = Parts {
+        text,
+        table: required,
+    };
+    select(index, required, marks, out)
 }
 
 // How many pairs the section claims to have; 0 where it does not reach so far.
-fn claimed(m: &[u8], start: u64) -> u64
-    requires { start < 4294967296 }
-    ensures { Claims m.now start result }
+fn claimed(buffer: ReadableBuffer) -> u64
+    ensures { Claims buffer.entry.bytes.now buffer.entry.start result }
 {
-    if start + 4 <= m.len() as u64 {
-        return reading::known_u16(m, start + 2);
+    if buffer.start + 4 <= buffer.bytes.len() as u64 {
+        return u16::known(buffer.bytes, buffer.start + 2);
     }
     0
 }
 
-// With an index for up to 32 pairs.
-fn with_few(m: &[u8], start: u64, text: &[u8], required: &[u32], out: &mut [u8]) -> WriteAnswer
-    requires { (start < 4294967296) × (length m.now < 4294967296) × Enough m.now start 32 }
-    ensures { Reads written_as whole (at (only_authenticated text.now required.now (length out.old)) m.now start) out.old out.new result }
+// With an index for up to N pairs, or, at 16,384, for as many as any section has: arrays, since there is no heap.
+fn with_room<const N: usize>(
+    buffer: ReadableBuffer,
+    text: &[u8],
+    required: &[u32],
+    out: &mut [u8],
+) -> Result<usize, Refusal>
+    requires { Lendable N × Enough buffer.bytes.now buffer.start N × (N ≤ 16384) }
+    ensures { Reads written_as whole (from (only_authenticated text.now required.now (length out.old)) buffer.entry) out.old out.new result }
 {
-    let mut keys = [0u16; 32];
-    let mut marks = [0u8; 32];
-    with_index(m, start, text, required, &mut keys[..], &mut marks[..], out)
-}
-
-// With one for as many as any section has.
-fn with_many(m: &[u8], start: u64, text: &[u8], required: &[u32], out: &mut [u8]) -> WriteAnswer
-    requires { (start < 4294967296) × (length m.now < 4294967296) }
-    ensures { Reads written_as whole (at (only_authenticated text.now required.now (length out.old)) m.now start) out.old out.new result }
-{
-    let mut keys = [0u16; 16384];
-    let mut marks = [0u8; 16384];
-    with_index(m, start, text, required, &mut keys[..], &mut marks[..], out)
+    let mut keys = [0u16; N];
+    let mut marks = [false; N];
+    with_index(buffer, text, required, &mut keys[..], &mut marks[..], out)
 }
 
 // WriteEmptyEcOrWriteAAD of the pairs whose keys are required, from the context section at a start, read tolerantly. A required key is
@@ -125,14 +108,12 @@ pub fn write_only_authenticated(
     text: &[u8],
     required: &[u32],
     out: &mut [u8],
-) -> WriteAnswer
+) -> Result<usize, Refusal>
     ensures { Reads written_as whole (operation (only_authenticated text.now required.now (length out.old)) m.now start) out.old out.new result }
 {
-    if reading::is_addressable(m, start) {
-        if claimed(m, start) <= 32 {
-            return with_few(m, start, text, required, out);
-        }
-        return with_many(m, start, text, required, out);
+    let buffer = ReadableBuffer::new(m, start)?;
+    if claimed(buffer) <= 32 {
+        return with_room::<32>(buffer, text, required, out);
     }
-    refuses(NOT_ADDRESSABLE)
+    with_room::<16384>(buffer, text, required, out)
 }

@@ -6,12 +6,13 @@ use mathlib.Core.List.{List, [], ◌∷◌, ◌++◌, map}
 use lib.Dec.{leb}
 use lib.ListN.{length, take, drop}
 use lib.Seq.{take_at}
+use Rattle.std.specs.Prelude.{Ok, Err}
 use Rattle.format.specs.Read.{Answer, accepted, refused, operation}
 use Rattle.format.specs.Serialize.{Bytes}
 use Rattle.format.specs.Fields.{today, Pair, PairAt, pair_of, HeaderBody, fields_of}
 use Rattle.format.specs.Context.{tolerant, read_aad_section, write_aad_pair, write_aad_section}
 use Rattle.format.specs.Checks.{check, pairs_checks}
-use Rattle.format.specs.Lent.{bytes_at, filled, pairs_in, table_checks, table_after, writing_aad_section}
+use Rattle.format.specs.Lent.{bytes_at, filled, pairs_in, table_checks, writing_aad_section}
 use Rattle.format.specs.OnlyAuthenticated.{write_only_authenticated}
 use Rattle.format.specs.Mending.{read_draft, dropped_image}
 use Rattle.format.specs.Arrangement.{Rearranged, Accepted, Asked, asks, drop_keys, after_drop, Remains, AllHave, AllHaveEither}
@@ -27,10 +28,10 @@ use Rattle.format.proofs.Mended.{mended_drafts}
 use Rattle.format.proofs.EitherOrder.{kept}
 use Rattle.format.proofs.Arrangement.{arrangement}
 use Rattle.wire.specs.Codes.{because}
-use Rattle.checks.specs.Answers.{written_as, whole}
-use Rattle.checks.specs.declared.WriteAnswer.TheVariants.{Written, Refused}
+use Rattle.checks.specs.Answers.{written_as}
 use Rattle.promises.specs.OnlyAuthenticated.{Call, Meets}
 use Rattle.promises.specs.Arrangement.{Section, Wrote, front_bytes, entry_bytes, Lends, JoinedCalls, SameRequired, SameBytes, Of, TwoDrops, EitherOrder, AllOfOne, SomeOfBoth, ArrangementPromises}
+use Rattle.promises.proofs.Codes.{answering}
 use Rattle.promises.proofs.Writer.{by_checks}
 
 -- bytes that stand behind the first k of an image are those of the image, whatever follows it
@@ -49,7 +50,7 @@ module _ (c : Section) (call : Wrote c) where
   abbrev image : List ℕ
   image = write_aad_section pairs
 
-  was_accepted : (n : ℕ) → c.answer ≡ Written n → Accepted pairs × (n ≡ length image) × (c.after ≡ filled image c.before)
+  was_accepted : (n : ℕ) → c.answer ≡ Ok n → Accepted pairs × (n ≡ length image) × (c.after ≡ filled image c.before)
   unfolding writing_aad_section
   was_accepted n e =
       let (none_applies, long, out) = (by_checks (writing_aad_section c.text c.table) c.before c.after c.answer call).only_then n e in
@@ -57,7 +58,7 @@ module _ (c : Section) (call : Wrote c) where
       let (of_table, of_pairs) = split (table_checks 4 c.text c.table) (pairs_checks pairs) checks in
       (unheld (pairs_checks pairs) of_pairs, long, out)
 
-  is_accepted : (n : ℕ) → Lends c n → Accepted pairs → length image ≤ n → (c.answer ≡ Written (length image)) × (c.after ≡ filled image c.before)
+  is_accepted : (n : ℕ) → Lends c n → Accepted pairs → length image ≤ n → (c.answer ≡ Ok (length image)) × (c.after ≡ filled image c.before)
   unfolding writing_aad_section
   is_accepted n lends good less =
       let room = lends.room in
@@ -74,7 +75,7 @@ module _ (c : Section) (call : Wrote c) where
 
 joined : (joined one two : Section) → Wrote joined → Wrote one → Wrote two
     → pairs_in joined.text joined.table ≡ pairs_in one.text one.table ++ pairs_in two.text two.table
-    → (n : ℕ) → joined.answer ≡ Written n → Lends one n → Lends two n → JoinedCalls joined one two n
+    → (n : ℕ) → joined.answer ≡ Ok n → Lends one n → Lends two n → JoinedCalls joined one two n
 joined c one two call call_one call_two are n e lends_one lends_two =
     let (good, long, out) = was_accepted c call n e in
     let law = arrangement.joined (pairs one call_one) (pairs two call_two) (rw are at good) in
@@ -91,13 +92,13 @@ joined c one two call call_one call_two are n e lends_one lends_two =
     }
 
 rearranged : (c d : Section) → Wrote c → Wrote d → Rearranged (pairs_in c.text c.table) (pairs_in d.text d.table)
-    → (n : ℕ) → c.answer ≡ Written n → Lends d n → (d.answer ≡ Written n) × (front_bytes d n ≡ front_bytes c n)
+    → (n : ℕ) → c.answer ≡ Ok n → Lends d n → (d.answer ≡ Ok n) × (front_bytes d n ≡ front_bytes c n)
 rearranged c d call_c call_d h n e lends =
     let (good, long, out) = was_accepted c call_c n e in
     let law = arrangement.rearranged (pairs c call_c) (pairs d call_d) h good in
     let size : n ≡ length (image d call_d) = long ∙ sym law.section_length in
     let (w, out_d) = is_accepted d call_d n lends law.still_accepted (omega arith) in
-    (w ∙ ap Written (sym size), front d call_d n size out_d ∙ law.in_front ∙ sym (front c call_c n long out))
+    (w ∙ ap Ok (sym size), front d call_d n size out_d ∙ law.in_front ∙ sym (front c call_c n long out))
 
 -- WHAT IS ONLY AUTHENTICATED. Two contracts whose answers are the same but for the tail
 module _ (c d : Call) (meets_c : Meets c) (meets_d : Meets d) (o : Answer (List ℕ)) where
@@ -110,23 +111,20 @@ module _ (c d : Call) (meets_c : Meets c) (meets_d : Meets d) (o : Answer (List 
       by : (x : Answer (List ℕ)) → o ≡ x → SameBytes c d
       by (accepted bytes t) e =
           let (u, there) = writes bytes t e in
-          let here = is ∙ e in
-          let of_c : c.answer ≡ Written (length bytes) = meets_c.answer ∙ ap written_as here in
-          let of_d : d.answer ≡ Written (length bytes) = meets_d.answer ∙ ap written_as there in
-          let out_c : c.after ≡ filled bytes c.before = meets_c.table ∙ ap (λ (a : Answer (List ℕ)). table_after whole a c.before) here in
-          let out_d : d.after ≡ filled bytes d.before = meets_d.table ∙ ap (λ (a : Answer (List ℕ)). table_after whole a d.before) there in
+          let of_c = answering meets_c (is ∙ e) in
+          let of_d = answering meets_d there in
           record {
-            same_answer = of_c ∙ sym of_d;
+            same_answer = of_c.answer ∙ sym of_d.answer;
             same_bytes = λ n w.
-                (let long : length bytes ≡ n = (let y : Written (length bytes) ≡ Written n = sym of_c ∙ w in cc) in
-                rw (out_c, out_d) (take_at bytes (drop (length bytes) c.before) n long ∙ sym (take_at bytes (drop (length bytes) d.before) n long)));
+                (let a = of_c.answer in
+                let long : length bytes ≡ n = cc in
+                rw (of_c.table, of_d.table) (take_at bytes (drop (length bytes) c.before) n long ∙ sym (take_at bytes (drop (length bytes) d.before) n long)));
           }
       by (refused k p) e =
-          let of_c : c.answer ≡ Refused (because k p) = meets_c.answer ∙ ap written_as (is ∙ e) in
-          let of_d : d.answer ≡ Refused (because k p) = meets_d.answer ∙ ap written_as (refuses k p e) in
+          let a : c.answer ≡ Err (because k p) = (answering meets_c (is ∙ e)).answer in
           record {
-            same_answer = of_c ∙ sym of_d;
-            same_bytes = λ n w. let y : Refused (because k p) ≡ Written n = sym of_c ∙ w in let z : ◌≡◌ {A = ℕ} 0 1 = cc in absurd (omega arith);
+            same_answer = a ∙ sym (answering meets_d (refuses k p e)).answer;
+            same_bytes = λ n w. cc;
           }
 
 only_authenticated : (c d : Call) → Bytes c.message → Bytes d.message → Meets c → Meets d → (ps qs : List PairAt) (t u : ℕ)
@@ -147,7 +145,7 @@ module _ (c : Section) (call : Wrote c) (x : Call) (is : Of c x) where
   abbrev context : Context
   context = record { form = today; pairs = pairs c call }
 
-  read_back : (n : ℕ) → c.answer ≡ Written n → operation (read_aad_section tolerant) x.message x.start ≡ accepted (context_at 0 context) (0 + length (image c call))
+  read_back : (n : ℕ) → c.answer ≡ Ok n → operation (read_aad_section tolerant) x.message x.start ≡ accepted (context_at 0 context) (0 + length (image c call))
   read_back n e =
       let (good, long, out) = was_accepted c call n e in
       let (few, each) = pairs_then (pairs c call) (holds (pairs_checks (pairs c call)) good) in
@@ -158,7 +156,7 @@ module _ (c : Section) (call : Wrote c) (x : Call) (is : Of c x) where
   as_pairs = map_puts write_aad_pair pair_at pair_of (λ s p. refl) 4 (pairs c call)
 
 of_what_was_written : (c d : Section) → Wrote c → Wrote d → Rearranged (pairs_in c.text c.table) (pairs_in d.text d.table)
-    → (n : ℕ) → c.answer ≡ Written n → d.answer ≡ Written n → (x y : Call) → Meets x → Meets y → Of c x → Of d y → SameRequired x y → SameBytes x y
+    → (n : ℕ) → c.answer ≡ Ok n → d.answer ≡ Ok n → (x y : Call) → Meets x → Meets y → Of c x → Of d y → SameRequired x y → SameBytes x y
 of_what_was_written c d call_c call_d h n e f x y meets_x meets_y of_x of_y same =
     only_authenticated x y of_x.bytes of_y.bytes meets_x meets_y _ _ _ _ (read_back c call_c x of_x n e) (read_back d call_d y of_y n f)
     (rw (as_pairs c call_c x of_x, as_pairs d call_d y of_y) h) same
@@ -209,11 +207,11 @@ module _ (p q before : List ℕ) (hb : Bytes before) (b : HeaderBody) (t : ℕ) 
       record {
         p_refused = (first_is p q before one ∙ ap written_as law.p_refused, then_is q p before other ∙ ap written_as again);
         q_refused = λ z.
-            (let no : written_as (drop_keys q before) ≡ Refused (because 40 0) = ap (λ id. written_as (drop_keys id before)) (sym z) ∙ ap written_as law.p_refused in
+            (let no : written_as (drop_keys q before) ≡ Err (because 40 0) = ap (λ id. written_as (drop_keys id before)) (sym z) ∙ ap written_as law.p_refused in
             (then_q ∙ no, first_q ∙ no));
         q_absent = λ d.
             (let said = law.q_absent d in
-            let yes : written_as (drop_keys q before) ≡ Written t = ap written_as said ∙ ap Written (tail_stays said stays) in
+            let yes : written_as (drop_keys q before) ≡ Ok t = ap written_as said ∙ ap Ok (tail_stays said stays) in
             (then_q ∙ yes, first_q ∙ yes));
         buffer_stays = (after_is p q before one ∙ ap (after_drop q) kept_p ∙ stays, after_is q p before other ∙ kept p _ again ∙ stays);
       }

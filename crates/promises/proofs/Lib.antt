@@ -1,3 +1,4 @@
+pub mod Codes
 pub mod Reader
 pub mod Writer
 pub mod Size

@@ -1,10 +1,10 @@
 -- Demand 3 of the body reader's calls: the definition's, by the contract. Assumes nothing.
 use Prim.Native.Nat.{ℕ, ◌≤◌}
-use native.Mathlib.Omega.{arith}
 use mathlib.Core.Path.{◌≡◌, refl, sym, ap, ◌∙◌}
 use mathlib.Core.Bool.{Bool, true, false, cond}
 use mathlib.Core.List.{List}
 use lib.ListN.{length}
+use Rattle.std.specs.Prelude.{Ok, Err}
 use Rattle.format.specs.Read.{Answer, accepted, refused, operation}
 use Rattle.format.specs.Serialize.{Bytes}
 use Rattle.format.specs.Fields.{today, old, form_number, Fields, fields_of}
@@ -21,11 +21,10 @@ use Rattle.format.proofs.Filled.{pair_table, key_table}
 use Rattle.format.proofs.Demand3.{demand_3}
 use Rattle.format.proofs.UnderPolicy.{under_policy}
 use Rattle.wire.specs.Codes.{because}
-use Rattle.wire.specs.declared.Refusal.{Refusal}
+use Rattle.wire.proofs.Answers.{read_got, read_no}
 use Rattle.body_reader.specs.Codes.{body_code, body_of}
 use Rattle.body_reader.specs.declared.HeaderBody.{HeaderBody}
-use Rattle.body_reader.specs.declared.HeaderBodyAnswer.{HeaderBodyAnswer}
-use Rattle.body_reader.specs.declared.HeaderBodyAnswer.TheVariants.{Accepted, Refused}
+use Rattle.promises.proofs.Codes.{as_read, by_test}
 use Rattle.promises.specs.Reader.{Call, reading_under, reading, Meets, Accepts, GivesFields, Refuses, Listed, Sentence1, Sentence2, Sentence3, Marks, ReaderPromises}
 
 module _ (c : Call) (o : Answer BodyRead) (call : Meets o c) where
@@ -35,10 +34,7 @@ module _ (c : Call) (o : Answer BodyRead) (call : Meets o c) where
   pub refuses : (k p : ℕ) → o ≡ refused k p → Refuses c k p
   refuses k p e = record { answer = rw e at call.answer; pairTable = rw e at call.pairTable; keyTable = rw e at call.keyTable }
 
--- the code's record is the body's
-pub record_is : (c : Call) (b : BodyRead) (x : HeaderBody) (t : ℕ) → Accepts c b t → c.answer ≡ Accepted x t → x ≡ body_code b
-record_is c b x t call e = let a : c.answer ≡ Accepted (body_code b) t = call.answer in let z : body_code b ≡ x = cc in sym z
-
+-- the code's record of a body gives its fields
 module _ (m : List ℕ) (c : Call) (b : BodyRead) (f : Fields) (t : ℕ) (given : Gives m b f) (call : Accepts c b t) where
   pub gives_fields : GivesFields m c (body_code b) f
   unfolding fields_of
@@ -56,23 +52,12 @@ module _ (m : List ℕ) (c : Call) (b : BodyRead) (f : Fields) (t : ℕ) (given 
         suiteData = given.placed.suiteData ∙ ap (λ (y : Fields). y.suiteData) given.fields;
       }
 
-  pub gives_record : (x : HeaderBody) → c.answer ≡ Accepted x t → GivesFields m c x f
-  gives_record x e = rw (record_is c b x t call e) gives_fields
+  pub gives_record : (x : HeaderBody) → body_code b ≡ x → GivesFields m c x f
+  gives_record x e = rw (← e) gives_fields
 
--- the mark, as the code's record has it
-pub form_is : (c : Call) (b : BodyRead) (x : HeaderBody) (t : ℕ) → Accepts c b t → c.answer ≡ Accepted x t → x.numbers.form ≡ form_number b.form
-form_is c b x t call e = ap (λ (y : HeaderBody). y.numbers.form) (record_is c b x t call e)
-
-pairs_are : (c : Call) (b : BodyRead) (x : HeaderBody) (t : ℕ) → Accepts c b t → c.answer ≡ Accepted x t → x.pairCount ≡ length b.pairs
-pairs_are c b x t call e = ap (λ (y : HeaderBody). y.pairCount) (record_is c b x t call e)
-
-pub accepted_is : (r : HeaderBodyAnswer) (o : Answer BodyRead) → r ≡ body_of o → (x : HeaderBody) (t : ℕ) → r ≡ Accepted x t → (b : BodyRead) × (o ≡ accepted b t)
-accepted_is r (accepted b u) e x t f = (b, ap (accepted b) (cc))
-accepted_is r (refused k p) e x t f = let z : ◌≡◌ {A = ℕ} 0 1 = cc in absurd (omega arith)
-
-pub refused_is : (r : HeaderBodyAnswer) (o : Answer BodyRead) → r ≡ body_of o → (q : Refusal) → r ≡ Refused q → o ≡ refused q.number q.position
-refused_is r (accepted b u) e q f = let z : ◌≡◌ {A = ℕ} 0 1 = cc in absurd (omega arith)
-refused_is r (refused k p) e q f = let z : because k p ≡ q = cc in rw (← z) refl
+-- the mark, as that record has it
+pub form_is : (b : BodyRead) (x : HeaderBody) → body_code b ≡ x → x.numbers.form ≡ form_number b.form
+form_is b x e = rw (← e) refl
 
 module _ (policy : Policy) (which : Which) (mode : Mode) (max : Max) (m : List ℕ) (s : ℕ) (c : Call) (call : Meets (reading_under policy which mode max m s c) c) where
   law : FirstRefusal (read_header_body_under policy which mode max (length c.pairs) (length c.keys)) (body_list (request_under policy which mode (tests_frames which) max (length c.pairs) (length c.keys))) body_here body_end m s
@@ -82,7 +67,7 @@ module _ (policy : Policy) (which : Which) (mode : Mode) (max : Max) (m : List �
   pub listed : Listed policy which mode max m s c
   listed =
       record {
-        refuses = λ q e. law.refuses q.number q.position (refused_is c.answer (reading_under policy which mode max m s c) call.answer q e);
+        refuses = λ q e. law.refuses q.number q.position (read_no body_code (reading_under policy which mode max m s c) c.answer call.answer q e);
         applies = λ k p f. refuses c (reading_under policy which mode max m s c) call k p (law.applies k p f);
         accepts = λ f. accepts c (reading_under policy which mode max m s c) call (body_here m s) (body_end m s) (law.accepts f);
       }
@@ -96,20 +81,15 @@ module _ (max : Max) (m : List ℕ) (s : ℕ) (c : Call) (bytes : Bytes m) (call
       let law = demand_3.sentence_1 max (length c.pairs) (length c.keys) m s bytes in
       record {
         only = λ h x tail e.
-            (let (b, q) = accepted_is c.answer said call.answer x tail e in
-            let y = law.only h b tail q in
-            let a = accepts c said call b tail q in
-            (y.0, y.1, b, y.2, y.3, a, y.5, gives_record m c b y.1 tail y.3 a x e, form_is c b x tail a e ∙ ap form_number y.4));
+            (let g = read_got body_code said c.answer call.answer _ e in
+            let y = law.only h g.item tail g.is in
+            let a = accepts c said call g.item tail g.is in
+            (y.0, y.1, g.item, y.2, y.3, a, y.5, gives_record m c g.item y.1 tail y.3 a x g.gives, form_is g.item x g.gives ∙ ap form_number y.4));
         all = λ h w f e. (let y = law.all h w f e in let a = accepts c said call y.0 _ y.1 in (y.0, a, y.2, gives_fields m c y.0 f _ y.2 a, ap form_number y.3));
         otherwise = λ h none. (let y = law.otherwise h none in (y.0, y.1, refuses c said call y.0 y.1 y.2, y.3));
         longer = λ h. refuses c said call 1 0 (law.longer h);
         farther = λ h. refuses c said call 1 0 (law.farther h);
       }
-
--- one answer or another, by a test
-pub by_answer : (b : Bool) (k : ℕ) (o : Answer BodyRead) → body_of (cond b (refused k 0) o) ≡ cond b (Refused (because k 0)) (body_of o)
-by_answer true k o = refl
-by_answer false k o = refl
 
 module _ (policy : Policy) (which : Which) (max : Max) (m : List ℕ) (s : ℕ) (c d : Call) (bytes : Bytes m) (tolerantly : Meets (reading_under policy which tolerant max m s c) c)
     (strictly : Meets (reading_under policy which strict max m s d) d) (pairs : c.pairs ≡ d.pairs) (keys : c.keys ≡ d.keys) where
@@ -119,7 +99,7 @@ module _ (policy : Policy) (which : Which) (max : Max) (m : List ℕ) (s : ℕ) 
       let t : Meets (operation (read_header_body_under policy which tolerant max (length d.pairs) (length d.keys)) m s) (record { pairs = d.pairs; pairs' = c.pairs'; keys = d.keys; keys' = c.keys'; answer = c.answer }) =
       rw (pairs, keys) at tolerantly in
       record {
-        answer = strictly.answer ∙ ap body_of y.answers ∙ by_answer (reaches_old policy which m s) 21 _ ∙ ap (cond (reaches_old policy which m s) (Refused (because 21 0))) (sym t.answer);
+        answer = strictly.answer ∙ ap body_of y.answers ∙ by_test (as_read body_code) (reaches_old policy which m s) 21 _ ∙ ap (cond (reaches_old policy which m s) (Err (because 21 0))) (sym t.answer);
         pairTable = strictly.pairTable ∙ y.pair_table d.pairs ∙ ap (cond (reaches_old policy which m s) d.pairs) (sym t.pairTable);
         keyTable = strictly.keyTable ∙ y.key_table d.keys ∙ ap (cond (reaches_old policy which m s) d.keys) (sym t.keyTable);
       }
@@ -129,16 +109,15 @@ sentence_3 policy mode max m s c h =
     let law = under_policy.sentence_3 policy mode max (length c.pairs) (length c.keys) m s h in
     record { version_1 = λ call. rw law.version_1 at call; version_2 = λ call. rw law.version_2 at call }
 
-module _ (which : Which) (mode : Mode) (max : Max) (m : List ℕ) (s : ℕ) (c : Call) (bytes : Bytes m) (call : Meets (reading which mode max m s c) c) (x : HeaderBody) (tail : ℕ) (e : c.answer ≡ Accepted x tail) where
+module _ (which : Which) (mode : Mode) (max : Max) (m : List ℕ) (s : ℕ) (c : Call) (bytes : Bytes m) (call : Meets (reading which mode max m s c) c) (x : HeaderBody) (tail : ℕ) (e : c.answer ≡ Ok (record { value = x; tail = tail })) where
   marks : Marks which mode m s x
   marks =
-      let (b, q) = accepted_is c.answer (reading which mode max m s c) call.answer x tail e in
-      let a = accepts c (reading which mode max m s c) call b tail q in
-      let law = demand_3.marks which mode max (length c.pairs) (length c.keys) m s bytes b tail q in
-      let f = form_is c b x tail a e in
+      let g = read_got body_code (reading which mode max m s c) c.answer call.answer _ e in
+      let law = demand_3.marks which mode max (length c.pairs) (length c.keys) m s bytes g.item tail g.is in
+      let f = form_is g.item x g.gives in
       record {
         by_the_section = f ∙ ap form_number law.by_the_section ∙ numbered (reaches_old no_policy which m s);
-        with_a_pair = λ h. f ∙ ap form_number (law.with_a_pair (λ none. h (pairs_are c b x tail a e ∙ ap length none)));
+        with_a_pair = λ h. f ∙ ap form_number (law.with_a_pair (λ none. h (ap (λ (y : HeaderBody). y.pairCount) (sym g.gives) ∙ ap length none)));
         strictly = λ k. f ∙ ap form_number (law.strictly k);
       }
     where

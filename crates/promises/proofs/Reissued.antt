@@ -5,41 +5,40 @@ use mathlib.Core.Path.{◌≡◌, sym, ap, ◌∙◌}
 use mathlib.Core.List.{List, ◌++◌}
 use lib.ListN.{length, take, drop}
 use lib.Seq.{take_at}
+use Rattle.std.specs.Prelude.{Result, Ok, Err}
 use Rattle.format.specs.Read.{Answer, accepted, operation}
 use Rattle.format.specs.Serialize.{Bytes}
 use Rattle.format.specs.Fields.{today, HeaderBody, fields_of}
 use Rattle.format.specs.Context.{tolerant}
 use Rattle.format.specs.Keys.{no_max}
 use Rattle.format.specs.Body.{either, read_header_body}
-use Rattle.format.specs.Lent.{filled, table_after, pair_table_after, key_table_after}
+use Rattle.format.specs.Lent.{filled, pair_table_after, key_table_after}
 use Rattle.format.specs.Demand3.{Gives}
 use Rattle.format.specs.Reissuing.{Reissue, reissued, reissued_image, reissued_header_body, reissue_header_body}
 use Rattle.format.specs.Reissued.{by_either, Told as Law}
 use Rattle.format.proofs.Reissued.{reissue_laws}
 use Rattle.wire.specs.Codes.{because}
-use Rattle.wire.specs.declared.Refusal.{Refusal}
+use Rattle.wire.specs.declared.refusals.Refusal.{Refusal}
+use Rattle.wire.specs.declared.SuccessfulRead.{SuccessfulRead}
 use Rattle.body_reader.specs.Codes.{body_of, body_code, ReadsBody}
-use Rattle.body_reader.specs.declared.HeaderBodyAnswer.{HeaderBodyAnswer}
-use Rattle.body_reader.specs.declared.HeaderBodyAnswer.TheVariants.{Accepted}
+use Rattle.body_reader.specs.declared.HeaderBody.{HeaderBody as BodyCode}
 use Rattle.checks.specs.Answers.{written_as, whole}
-use Rattle.checks.specs.declared.WriteAnswer.{WriteAnswer}
-use Rattle.checks.specs.declared.WriteAnswer.TheVariants.{Written, Refused}
 use Rattle.promises.specs.Reissued.{Reissues, Tells, HasWritten, ReissuePromise, Told, ReissuedPromises}
-use Rattle.promises.proofs.Listed.{back_written, image_of, kept}
+use Rattle.promises.proofs.Codes.{as_written, image_of, answering, kept}
 
-module _ (a : Reissue) (m : List ℕ) (s : ℕ) (before after : List ℕ) (r : WriteAnswer) (call : Reissues a m s before after r) where
+module _ (a : Reissue) (m : List ℕ) (s : ℕ) (before after : List ℕ) (r : Result ℕ Refusal) (call : Reissues a m s before after r) where
   abbrev said : Answer (List ℕ)
   said = operation (reissue_header_body a (length before)) m s
 
-  keeps : (q : Refusal) → r ≡ Refused q → after ≡ before
-  keeps q e = call.table ∙ kept said q (sym call.answer ∙ e) before
+  keeps : (q : Refusal) → r ≡ Err q → after ≡ before
+  keeps q e = kept as_written whole said before after r call q e
 
-  writes : Bytes m → (n : ℕ) → r ≡ Written n → HasWritten a m s before after n
+  writes : Bytes m → (n : ℕ) → r ≡ Ok n → HasWritten a m s before after n
   writes hb n e =
       let (image, t, is, long) = image_of said n (sym call.answer ∙ e) in
       let (told, fits) = (reissue_laws.told a m s).image_given (length before) image t is in
       let (b, read, same, means) = reissue_laws.accepted_then a m s hb image t told in
-      let out : after ≡ filled image before = call.table ∙ ap (λ (o : Answer (List ℕ)). table_after whole o before) is in
+      let out : after ≡ filled image before = (answering call is).table in
       record {
         body = b;
         tail = t;
@@ -60,7 +59,7 @@ module _ (a : Reissue) (m : List ℕ) (s : ℕ) (before after : List ℕ) (r : W
       }
 
   -- beside what was told
-  module _ (told : WriteAnswer) (tells : Tells a m s told) where
+  module _ (told : Result ℕ Refusal) (tells : Tells a m s told) where
     law : Law a m s
     law = reissue_laws.told a m s
 
@@ -71,23 +70,23 @@ module _ (a : Reissue) (m : List ℕ) (s : ℕ) (before after : List ℕ) (r : W
     size =
         record {
           refuses = λ q e.
-              (let no : r ≡ Refused q = call.answer ∙ ap written_as (law.refuses q.number q.position (back_written before_it q (sym tells ∙ e)) (length before)) in
+              (let no : r ≡ Err q = call.answer ∙ ap written_as (law.refuses q.number q.position (as_written.back before_it q (sym tells ∙ e)) (length before)) in
               (no, keeps q no));
           too_short = λ n e.
               (let (image, t, is, long) = image_of before_it n (sym tells ∙ e) in
               let both = law.too_short image t is (length before) in
               record {
-                onward = λ f. (let z = both.onward (back_written said (because 28 0) (sym call.answer ∙ f)) in omega arith);
+                onward = λ f. (let z = both.onward (as_written.back said (because 28 0) (sym call.answer ∙ f)) in omega arith);
                 back = λ h. call.answer ∙ ap written_as (both.back (omega arith));
               });
           reports = λ n e h.
               (let (image, t, is, long) = image_of before_it n (sym tells ∙ e) in
-              call.answer ∙ ap written_as (law.reports image t is (length before) (omega arith)) ∙ ap Written (sym long));
-          refusal_told = λ q e h. tells ∙ ap written_as (law.refusal_given (length before) q.number q.position (back_written said q (sym call.answer ∙ e)) h);
+              call.answer ∙ ap written_as (law.reports image t is (length before) (omega arith)) ∙ ap Ok (sym long));
+          refusal_told = λ q e h. tells ∙ ap written_as (law.refusal_given (length before) q.number q.position (as_written.back said q (sym call.answer ∙ e)) h);
           length_told = λ n e.
               (let (image, t, is, long) = image_of said n (sym call.answer ∙ e) in
               let (was_told, fits) = law.image_given (length before) image t is in
-              tells ∙ ap written_as was_told ∙ ap Written (sym long));
+              tells ∙ ap written_as was_told ∙ ap Ok (sym long));
         }
 
 -- the bytes written are the image
@@ -98,8 +97,8 @@ written_bytes image before after n e f = ap (take n) f ∙ take_at image (drop (
 reads : (a : Reissue) (m : List ℕ) (s : ℕ) (before after : List ℕ) (n : ℕ) (w : HasWritten a m s before after n) (message : List ℕ) (start : ℕ) (rest : List ℕ)
     → length message ≤ 4294967295 → drop start message ≡ take n after ++ rest
     → (pairs pairs' keys keys' : List ℕ) → 4 * length w.body.pairs ≤ length pairs → 6 * length w.body.keys ≤ length keys
-    → (x : HeaderBodyAnswer) → ReadsBody (operation (read_header_body either tolerant no_max (length pairs) (length keys)) message start) pairs pairs' keys keys' x
-    → (c : HeaderBody) × (x ≡ Accepted (body_code c) (start + n)) × Gives message c (reissued a (fields_of w.body)) × (c.form ≡ today)
+    → (x : Result (SuccessfulRead BodyCode) Refusal) → ReadsBody (operation (read_header_body either tolerant no_max (length pairs) (length keys)) message start) pairs pairs' keys keys' x
+    → (c : HeaderBody) × (x ≡ Ok (record { value = body_code c; tail = start + n })) × Gives message c (reissued a (fields_of w.body)) × (c.form ≡ today)
     × (pairs' ≡ pair_table_after (accepted c (start + n)) pairs) × (keys' ≡ key_table_after (accepted c (start + n)) keys)
 reads a m s before after n w message start rest few there pairs pairs' keys keys' hp hk x read =
     let image = reissued_image a w.body in

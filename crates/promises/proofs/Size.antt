@@ -3,6 +3,7 @@ use Prim.Native.Nat.{ℕ, ◌≤◌}
 use mathlib.Core.Path.{◌≡◌, ap, ◌∙◌}
 use mathlib.Core.List.{List}
 use lib.ListN.{length}
+use Rattle.std.specs.Prelude.{Result, Ok, Err}
 use Rattle.format.specs.Read.{accepted, refused}
 use Rattle.format.specs.Policies.{no_policy}
 use Rattle.format.specs.Lent.{filled, Writing, size_of, writing_header_body_under, writing_header_body, writing_frames}
@@ -10,26 +11,24 @@ use Rattle.format.specs.Size.{SizeLaw, size_refusals, frames_size_refusals, Give
 use Rattle.format.proofs.Writers.{writer_law}
 use Rattle.format.proofs.Size.{size_laws}
 use Rattle.wire.specs.Codes.{because}
-use Rattle.wire.specs.declared.Refusal.{Refusal}
+use Rattle.wire.specs.declared.refusals.Refusal.{Refusal}
 use Rattle.checks.specs.Answers.{write_answer_of, Writes}
-use Rattle.checks.specs.declared.WriteAnswer.{WriteAnswer}
-use Rattle.checks.specs.declared.WriteAnswer.TheVariants.{Written, Refused}
 use Rattle.checks.proofs.Writers.{written_is, refused_is}
 use Rattle.body_write.specs.Lent.{body_to_write}
 use Rattle.promises.specs.Writer.{Write, lent, its_image, MeetsWriter}
 use Rattle.promises.specs.Size.{Tells, Told, SizePromises}
 
-module _ (w : Writing) (refusals : List ℕ) (given : GivenBy refusals w) (before after : List ℕ) (r s : WriteAnswer) (size : Tells w s) (call : Writes w before after r) where
+module _ (w : Writing) (refusals : List ℕ) (given : GivenBy refusals w) (before after : List ℕ) (r s : Result ℕ Refusal) (size : Tells w s) (call : Writes w before after r) where
   law : SizeLaw w
   law = size_laws.of_writers w
 
-  told_refused : (q : Refusal) → s ≡ Refused q → size_of w ≡ refused q.number q.position
+  told_refused : (q : Refusal) → s ≡ Err q → size_of w ≡ refused q.number q.position
   told_refused q e = refused_is s (size_of w) size q e
 
-  told_length : (n : ℕ) → s ≡ Written n → size_of w ≡ accepted tt n
+  told_length : (n : ℕ) → s ≡ Ok n → size_of w ≡ accepted tt n
   told_length n e = written_is s (size_of w) size n e
 
-  reports : (n : ℕ) → s ≡ Written n → n ≤ length before → (r ≡ Written n) × (n ≡ length w.image) × (after ≡ filled w.image before)
+  reports : (n : ℕ) → s ≡ Ok n → n ≤ length before → (r ≡ Ok n) × (n ≡ length w.image) × (after ≡ filled w.image before)
   reports n e h =
       let a = law.reports n (told_length n e) before h in
       let (c, d, room, o) = (writer_law w before).only_then n a in
@@ -51,7 +50,7 @@ module _ (w : Writing) (refusals : List ℕ) (given : GivenBy refusals w) (befor
         listed = λ q e. given _ _ (told_refused q e);
       }
 
-of_body : (w : Write) (s : WriteAnswer) → Tells (writing_header_body (lent w)) s → MeetsWriter w → Told (size_refusals no_policy) (its_image w) w.before w.after w.answer s
+of_body : (w : Write) (s : Result ℕ Refusal) → Tells (writing_header_body (lent w)) s → MeetsWriter w → Told (size_refusals no_policy) (its_image w) w.before w.after w.answer s
 unfolding writing_header_body_under body_to_write
 of_body w s size call = told (writing_header_body (lent w)) (size_refusals no_policy) (size_laws.of_body no_policy (lent w)) w.before w.after w.answer s size call
 

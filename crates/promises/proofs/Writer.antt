@@ -1,11 +1,11 @@
 -- Demand 3 of the body writer's calls: the definition's, by the contract. Assumes nothing.
 use Prim.Native.Nat.{ℕ, ◌*◌, ◌≤◌, ◌<◌}
-use native.Mathlib.Omega.{arith}
 use mathlib.Core.Path.{◌≡◌, refl, sym, ap, subst, ◌∙◌}
 use mathlib.Core.Bool.{true}
 use mathlib.Core.Option.{Option, none, some}
 use mathlib.Core.List.{List}
 use lib.ListN.{length}
+use Rattle.std.specs.Prelude.{Result, Ok}
 use Rattle.format.specs.Fields.{HeaderBody as BodyRead}
 use Rattle.format.specs.Context.{tolerant}
 use Rattle.format.specs.Keys.{Max, within}
@@ -13,50 +13,34 @@ use Rattle.format.specs.Body.{either}
 use Rattle.format.specs.Lent.{filled, Writing, refusal_of, written_of, output_of, writing_header_body}
 use Rattle.format.specs.Demand3.{Gives}
 use Rattle.format.specs.Demand3.{Sentence4 as Sentence4Defined}
+use Rattle.format.proofs.Writers.{of_accepted, of_refused}
 use Rattle.format.proofs.Demand3.{demand_3}
 use Rattle.format.proofs.Pinned.{pinned}
-use Rattle.wire.specs.Codes.{because}
-use Rattle.wire.specs.declared.Refusal.{Refusal}
+use Rattle.wire.specs.declared.refusals.Refusal.{Refusal}
 use Rattle.checks.specs.Answers.{write_answer_of, Writes}
-use Rattle.checks.specs.declared.WriteAnswer.{WriteAnswer}
-use Rattle.checks.specs.declared.WriteAnswer.TheVariants.{Written, Refused}
-use Rattle.checks.proofs.Writers.{written_is}
+use Rattle.checks.proofs.Writers.{written_is, refused_is}
 use Rattle.body_write.specs.Lent.{body_to_write}
 use Rattle.promises.specs.Reader.{Call, reading, Meets, Accepts}
 use Rattle.promises.specs.Writer.{all_checks, ByChecks, Write, lent, fields, mark, its_image, MeetsWriter, NoneApplies, Sentence4, WriterPromises}
 use Rattle.promises.proofs.Reader.{accepts}
 
 -- every writer: by the first of its checks that fails
-module _ (w : Writing) (before after : List ℕ) (r : WriteAnswer) (call : Writes w before after r) where
+module _ (w : Writing) (before after : List ℕ) (r : Result ℕ Refusal) (call : Writes w before after r) where
   -- by what its checks find
-  of_none : (x : Option ℕ) → r ≡ write_answer_of (written_of x w.image) → after ≡ output_of x w.image before → x ≡ none → (r ≡ Written (length w.image)) × (after ≡ filled w.image before)
-  of_none none e o f = (e, o)
-  of_none (some k) e o f = let z : ◌≡◌ {A = ℕ} 0 1 = cc in absurd (omega arith)
-
-  of_written : (x : Option ℕ) → r ≡ write_answer_of (written_of x w.image) → after ≡ output_of x w.image before → (n : ℕ) → r ≡ Written n
-      → (x ≡ none) × (n ≡ length w.image) × (after ≡ filled w.image before)
-  of_written none e o n f = (refl, cc, o)
-  of_written (some k) e o n f = let z : ◌≡◌ {A = ℕ} 0 1 = cc in absurd (omega arith)
-
-  of_refused : (x : Option ℕ) → r ≡ write_answer_of (written_of x w.image) → after ≡ output_of x w.image before → (q : Refusal) → r ≡ Refused q
-      → (x ≡ some q.number) × (q.position ≡ 0) × (after ≡ before)
-  of_refused none e o q f = let z : ◌≡◌ {A = ℕ} 0 1 = cc in absurd (omega arith)
-  of_refused (some k) e o q f = let z : because k 0 ≡ q = cc in (ap some (ap (λ (y : Refusal). y.number) z), sym (ap (λ (y : Refusal). y.position) z), o)
-
-  of_some : (x : Option ℕ) → r ≡ write_answer_of (written_of x w.image) → after ≡ output_of x w.image before → (k : ℕ) → x ≡ some k → (r ≡ Refused (because k 0)) × (after ≡ before)
-  of_some none e o k f = let z : ◌≡◌ {A = ℕ} 0 1 = cc in absurd (omega arith)
-  of_some (some j) e o k f = let z : j ≡ k = cc in (rw z at e, o)
+  by : (x : Option ℕ) → refusal_of w before ≡ x → (r ≡ write_answer_of (written_of x w.image)) × (after ≡ output_of x w.image before)
+  by x e = (rw e at call.answer, rw e at call.output)
 
   pub by_checks : ByChecks w before after r
   unfolding refusal_of
   by_checks =
-      let x = refusal_of w before in
       let first_law = pinned.first_check (all_checks w before) in
       record {
-        writes = λ e. of_none x call.answer call.output e;
-        only_then = λ n e. of_written x call.answer call.output n e;
-        refuses = λ q e. (let (a, p, o) = of_refused x call.answer call.output q e in ((first_law q.number).onward a, p, o));
-        fails = λ k f. of_some x call.answer call.output k ((first_law k).back f);
+        writes = λ e. by none e;
+        only_then = λ n e. (let (p, long) = of_accepted w.image (refusal_of w before) n (written_is r _ call.answer n e) in (p, long, (by none p).1));
+        refuses = λ q e.
+            (let (p, first) = of_refused w.image (refusal_of w before) q.number q.position (refused_is r _ call.answer q e) in
+            ((first_law q.number).onward p, first, (by (some q.number) p).1));
+        fails = λ k f. by (some k) ((first_law k).back f);
       }
 
 module _ (w : Write) (wide : w.numbers.frameLength < 4294967296) (call : MeetsWriter w) where
@@ -74,19 +58,19 @@ module _ (w : Write) (wide : w.numbers.frameLength < 4294967296) (call : MeetsWr
   unfolding body_to_write
   texts = (refl, refl, refl)
 
-  writes : NoneApplies w → (w.answer ≡ Written (length (its_image w))) × (w.after ≡ filled (its_image w) w.before)
+  writes : NoneApplies w → (w.answer ≡ Ok (length (its_image w))) × (w.after ≡ filled (its_image w) w.before)
   unfolding body_to_write
   writes h =
       let (a, o) = law.writes h.accepts h.pairs h.keys h.fits in
       (call.answer ∙ ap write_answer_of a, call.output ∙ o)
 
-  only_then : (n : ℕ) → w.answer ≡ Written n → NoneApplies w × (n ≡ length (its_image w)) × (w.after ≡ filled (its_image w) w.before)
+  only_then : (n : ℕ) → w.answer ≡ Ok n → NoneApplies w × (n ≡ length (its_image w)) × (w.after ≡ filled (its_image w) w.before)
   unfolding body_to_write
   only_then n e =
       let (a, p, k, d, room, o) = law.only_then n wide_lent (written_is w.answer _ call.answer n e) in
       (record { accepts = a; pairs = p; keys = k; fits = rw d at room }, d, call.output ∙ o)
 
-  read_back : (n : ℕ) → w.answer ≡ Written n → length w.before ≤ 4294967295 → (max : Max) (c : Call) → Meets (reading either tolerant max w.after 0 c) c
+  read_back : (n : ℕ) → w.answer ≡ Ok n → length w.before ≤ 4294967295 → (max : Max) (c : Call) → Meets (reading either tolerant max w.after 0 c) c
       → 4 * length (fields w).pairs ≤ length c.pairs → 6 * length (fields w).keys ≤ length c.keys → within (length (fields w).keys) max ≡ true
       → (b : BodyRead) × Accepts c b n × Gives w.after b (fields w) × (b.form ≡ mark w)
   unfolding body_to_write

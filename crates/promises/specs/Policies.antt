@@ -1,6 +1,6 @@
 -- Under a policy, of the code: what every call of `read_header_body`, `write_header_body_under` and `header_body_len_under` answers and leaves, by its
 -- contract; the policy is a variable. Proved in proofs/Policies. Assumes nothing.
-use Rattle.std.specs.Prelude.{ℕ, ◌+◌, ◌*◌, ◌≤◌, ◌<◌, ◌≡◌, true, false, cond, List, length}
+use Rattle.std.specs.Prelude.{ℕ, ◌+◌, ◌*◌, ◌≤◌, ◌<◌, ◌≡◌, true, false, cond, List, length, Result, Ok, Err}
 use Rattle.format.specs.Serialize.{Bytes}
 use Rattle.format.specs.Fields.{Fields}
 use Rattle.format.specs.Fields.{HeaderBody as BodyRead}
@@ -13,25 +13,23 @@ use Rattle.format.specs.Size.{size_refusals}
 use Rattle.format.specs.Demand3.{Writer, image_by, Stands, Gives}
 use Rattle.format.specs.UnderPolicy.{forbids_reading, forbids_writing}
 use Rattle.wire.specs.Codes.{because}
+use Rattle.wire.specs.declared.refusals.Refusal.{Refusal}
 use Rattle.checks.specs.Answers.{Writes}
-use Rattle.checks.specs.declared.WriteAnswer.{WriteAnswer}
-use Rattle.checks.specs.declared.WriteAnswer.TheVariants as write
 use Rattle.body_reader.specs.Codes.{body_code}
 use Rattle.body_reader.specs.declared.HeaderBody.{HeaderBody}
-use Rattle.body_reader.specs.declared.HeaderBodyAnswer.TheVariants as read
 use Rattle.promises.specs.Reader.{Call, reading_under, reading, Meets, Accepts, GivesFields, Refuses, Marked, Listed, Sentence2, Sentence3}
 use Rattle.promises.specs.Writer.{Write, lent, fields, mark, its_image, MeetsWriter}
 use Rattle.promises.specs.Size.{Tells, Told}
 
 -- READING. c is a call without a policy, d one with it, alike in all else.
 pub record Reads (policy : Policy) (which : Which) (m : List ℕ) (s : ℕ) (c d : Call) : Type 0 where
-  pub answer : d.answer ≡ cond (forbids_reading policy which m s) (read.Refused (because 39 0)) c.answer
+  pub answer : d.answer ≡ cond (forbids_reading policy which m s) (Err (because 39 0)) c.answer
   pub pairTable : d.pairs' ≡ cond (forbids_reading policy which m s) d.pairs c.pairs'
   pub keyTable : d.keys' ≡ cond (forbids_reading policy which m s) d.keys c.keys'
 
 -- the tolerant either-version reader gives the fields of each image whose version the policy lets it read, and accepts nothing else
 pub record ReadsImages (policy : Policy) (max : Max) (m : List ℕ) (s : ℕ) (c : Call) : Type 0 where
-  pub only : length m ≤ 4294967295 → (x : HeaderBody) (tail : ℕ) → c.answer ≡ read.Accepted x tail
+  pub only : length m ≤ 4294967295 → (x : HeaderBody) (tail : ℕ) → c.answer ≡ Ok (record { value = x; tail = tail })
       → (w : Writer) × (f : Fields) × Stands max (length c.pairs) (length c.keys) m s w f × (lets_read policy f.version ≡ true) × (tail ≡ s + length (image_by w f))
       × GivesFields m c x f × Marked x w f
   pub all : length m ≤ 4294967295 → (w : Writer) (f : Fields) → Stands max (length c.pairs) (length c.keys) m s w f → lets_read policy f.version ≡ true
@@ -45,7 +43,7 @@ MeetsWriterUnder policy w = Writes (writing_header_body_under policy (lent w)) w
 
 -- v is a call without a policy, w one with it, alike in what they are lent
 pub record WritesAlike (policy : Policy) (v w : Write) : Type 0 where
-  pub answer : w.answer ≡ cond (forbids_writing policy (lent w)) (write.Refused (because 39 0)) v.answer
+  pub answer : w.answer ≡ cond (forbids_writing policy (lent w)) (Err (because 39 0)) v.answer
   pub output : w.after ≡ cond (forbids_writing policy (lent w)) w.before v.after
 
 pub record PolicyPromises : Type 0 where
@@ -60,12 +58,12 @@ pub record PolicyPromises : Type 0 where
   pub sentence_3 : (policy : Policy) (mode : Mode) (max : Max) (m : List ℕ) (s : ℕ) (c : Call) → length m ≤ 4294967295 → Sentence3 policy mode max m s c
   -- written, and told before
   pub writes : (policy : Policy) (v w : Write) → MeetsWriter v → MeetsWriterUnder policy w → lent v ≡ lent w → v.before ≡ w.before → WritesAlike policy v w
-  pub tells : (policy : Policy) (w : Write) (s t : WriteAnswer) → Tells (writing_header_body (lent w)) s → Tells (writing_header_body_under policy (lent w)) t
-      → t ≡ cond (forbids_writing policy (lent w)) (write.Refused (because 39 0)) s
-  pub told : (policy : Policy) (w : Write) (s : WriteAnswer) → Tells (writing_header_body_under policy (lent w)) s → MeetsWriterUnder policy w
+  pub tells : (policy : Policy) (w : Write) (s t : Result ℕ Refusal) → Tells (writing_header_body (lent w)) s → Tells (writing_header_body_under policy (lent w)) t
+      → t ≡ cond (forbids_writing policy (lent w)) (Err (because 39 0)) s
+  pub told : (policy : Policy) (w : Write) (s : Result ℕ Refusal) → Tells (writing_header_body_under policy (lent w)) s → MeetsWriterUnder policy w
       → Told (size_refusals policy) (its_image w) w.before w.after w.answer s
   -- what is written under a policy, the tolerant either-version reader gives back under it
-  pub reads_its_own : (policy : Policy) (w : Write) → w.numbers.frameLength < 4294967296 → MeetsWriterUnder policy w → (n : ℕ) → w.answer ≡ write.Written n
+  pub reads_its_own : (policy : Policy) (w : Write) → w.numbers.frameLength < 4294967296 → MeetsWriterUnder policy w → (n : ℕ) → w.answer ≡ Ok n
       → length w.before ≤ 4294967295 → (max : Max) (c : Call) → Meets (reading_under policy either tolerant max w.after 0 c) c
       → 4 * length (fields w).pairs ≤ length c.pairs → 6 * length (fields w).keys ≤ length c.keys → within (length (fields w).keys) max ≡ true
       → (b : BodyRead) × Accepts c b n × Gives w.after b (fields w) × (b.form ≡ mark w)

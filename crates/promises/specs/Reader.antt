@@ -1,6 +1,6 @@
 -- Demand 3 of the code: what every call of `read_header_body` answers and leaves in its tables, by its contract. Proved in
 -- proofs/Reader. Assumes nothing.
-use Rattle.std.specs.Prelude.{ℕ, ◌+◌, ◌≤◌, ◌<◌, ◌≡◌, cond, List, length}
+use Rattle.std.specs.Prelude.{ℕ, ◌+◌, ◌≤◌, ◌<◌, ◌≡◌, cond, List, length, Result, Ok, Err}
 use Rattle.format.specs.Read.{Answer, refused, operation}
 use Rattle.format.specs.Serialize.{Bytes}
 use Rattle.format.specs.Fields.{form_number, Fields}
@@ -14,11 +14,10 @@ use Rattle.format.specs.Places.{body_here, body_end}
 use Rattle.format.specs.First.{FirstApplies, NoneApplies, Line, operation_list, body_list}
 use Rattle.format.specs.Demand3.{Writer, mark_by, image_by, Stands, Gives, reaches_old, stands_at}
 use Rattle.wire.specs.Codes.{because}
-use Rattle.wire.specs.declared.Refusal.{Refusal}
+use Rattle.wire.specs.declared.refusals.Refusal.{Refusal}
+use Rattle.wire.specs.declared.SuccessfulRead.{SuccessfulRead}
 use Rattle.body_reader.specs.Codes.{body_code, ReadsBody}
 use Rattle.body_reader.specs.declared.HeaderBody.{HeaderBody}
-use Rattle.body_reader.specs.declared.HeaderBodyAnswer.{HeaderBodyAnswer}
-use Rattle.body_reader.specs.declared.HeaderBodyAnswer.TheVariants.{Accepted, Refused}
 
 -- a call: both tables before and after it, and its answer
 pub record Call : Type 0 where
@@ -26,7 +25,7 @@ pub record Call : Type 0 where
   pub pairs' : List ℕ
   pub keys : List ℕ
   pub keys' : List ℕ
-  pub answer : HeaderBodyAnswer
+  pub answer : Result (SuccessfulRead HeaderBody) Refusal
 
 -- what the definition answers, with tables as long as the call's, under a policy and without one
 abbrev pub reading_under : Policy → Which → Mode → Max → List ℕ → ℕ → Call → Answer BodyRead
@@ -41,7 +40,7 @@ Meets o c = ReadsBody o c.pairs c.pairs' c.keys c.keys' c.answer
 
 -- it accepts: the code's record is that of the body b, and the tables hold the places of its pairs and keys
 pub record Accepts (c : Call) (b : BodyRead) (tail : ℕ) : Type 0 where
-  pub answer : c.answer ≡ Accepted (body_code b) tail
+  pub answer : c.answer ≡ Ok (record { value = body_code b; tail = tail })
   pub pairTable : c.pairs' ≡ filled (pair_numbers b.pairs) c.pairs
   pub keyTable : c.keys' ≡ filled (key_numbers b.keys) c.keys
 
@@ -60,7 +59,7 @@ pub record GivesFields (m : List ℕ) (c : Call) (x : HeaderBody) (f : Fields) :
 
 -- it refuses, and the tables are as they were
 pub record Refuses (c : Call) (number position : ℕ) : Type 0 where
-  pub answer : c.answer ≡ Refused (because number position)
+  pub answer : c.answer ≡ Err (because number position)
   pub pairTable : c.pairs' ≡ c.pairs
   pub keyTable : c.keys' ≡ c.keys
 
@@ -70,7 +69,7 @@ listed policy which mode max m s c = operation_list (body_list (request_under po
 
 -- it refuses by the first line of the list that applies, with its position; where none does it accepts what stands there
 pub record Listed (policy : Policy) (which : Which) (mode : Mode) (max : Max) (m : List ℕ) (s : ℕ) (c : Call) : Type 0 where
-  pub refuses : (q : Refusal) → c.answer ≡ Refused q → FirstApplies (listed policy which mode max m s c) q.number q.position
+  pub refuses : (q : Refusal) → c.answer ≡ Err q → FirstApplies (listed policy which mode max m s c) q.number q.position
   pub applies : (k p : ℕ) → FirstApplies (listed policy which mode max m s c) k p → Refuses c k p
   pub accepts : NoneApplies (listed policy which mode max m s c) → Accepts c (body_here m s) (body_end m s)
 
@@ -80,7 +79,7 @@ Marked x w f = x.numbers.form ≡ form_number (mark_by w f.pairs)
 
 -- SENTENCE 1, of the tolerant either-version reader
 pub record Sentence1 (max : Max) (m : List ℕ) (s : ℕ) (c : Call) : Type 0 where
-  pub only : length m ≤ 4294967295 → (x : HeaderBody) (tail : ℕ) → c.answer ≡ Accepted x tail
+  pub only : length m ≤ 4294967295 → (x : HeaderBody) (tail : ℕ) → c.answer ≡ Ok (record { value = x; tail = tail })
       → (w : Writer) × (f : Fields) × (b : BodyRead) × Stands max (length c.pairs) (length c.keys) m s w f × Gives m b f × Accepts c b tail × (tail ≡ s + length (image_by w f))
       × GivesFields m c x f × Marked x w f
   pub all : length m ≤ 4294967295 → (w : Writer) (f : Fields) → Stands max (length c.pairs) (length c.keys) m s w f
@@ -92,7 +91,7 @@ pub record Sentence1 (max : Max) (m : List ℕ) (s : ℕ) (c : Call) : Type 0 wh
 
 -- SENTENCE 2, of a strict and a tolerant call with the same start, tables, maximum and policy
 pub record Sentence2 (policy : Policy) (which : Which) (m : List ℕ) (s : ℕ) (tolerantly strictly : Call) : Type 0 where
-  pub answer : strictly.answer ≡ cond (reaches_old policy which m s) (Refused (because 21 0)) tolerantly.answer
+  pub answer : strictly.answer ≡ cond (reaches_old policy which m s) (Err (because 21 0)) tolerantly.answer
   pub pairTable : strictly.pairs' ≡ cond (reaches_old policy which m s) strictly.pairs tolerantly.pairs'
   pub keyTable : strictly.keys' ≡ cond (reaches_old policy which m s) strictly.keys tolerantly.keys'
 
@@ -117,4 +116,4 @@ pub record ReaderPromises : Type 0 where
       → c.pairs ≡ d.pairs → c.keys ≡ d.keys → Sentence2 no_policy which m s c d
   pub sentence_3 : (mode : Mode) (max : Max) (m : List ℕ) (s : ℕ) (c : Call) → length m ≤ 4294967295 → Sentence3 no_policy mode max m s c
   pub marks : (which : Which) (mode : Mode) (max : Max) (m : List ℕ) (s : ℕ) (c : Call) → Bytes m → Meets (reading which mode max m s c) c
-      → (x : HeaderBody) (tail : ℕ) → c.answer ≡ Accepted x tail → Marks which mode m s x
+      → (x : HeaderBody) (tail : ℕ) → c.answer ≡ Ok (record { value = x; tail = tail }) → Marks which mode m s x

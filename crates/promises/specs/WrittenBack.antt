@@ -1,14 +1,12 @@
 -- 'A body read by the either-version reader and written again, into an output long enough, then gives the bytes consumed', of the calls of
 -- `read_header_body` and `write_header_body`, by their contracts. Proved in proofs/WrittenBack. Assumes nothing.
-use Rattle.std.specs.Prelude.{ℕ, ◌*◌, ◌-◌, ◌≤◌, ◌≡◌, List, length, take}
+use Rattle.std.specs.Prelude.{ℕ, ◌*◌, ◌-◌, ◌≤◌, ◌≡◌, List, length, take, Ok}
 use Rattle.format.specs.Serialize.{Bytes}
 use Rattle.format.specs.Context.{Mode}
 use Rattle.format.specs.Keys.{Max}
 use Rattle.format.specs.Body.{either}
 use Rattle.format.specs.Lent.{bytes_at, filled}
 use Rattle.body_reader.specs.declared.HeaderBody.{HeaderBody}
-use Rattle.body_reader.specs.declared.HeaderBodyAnswer.TheVariants.{Accepted}
-use Rattle.checks.specs.declared.WriteAnswer.TheVariants.{Written}
 use Rattle.promises.specs.Reader.{Call, reading, Meets}
 use Rattle.promises.specs.Writer.{Write, MeetsWriter}
 
@@ -25,5 +23,5 @@ pub record Hands (m : List ℕ) (c : Call) (x : HeaderBody) (w : Write) : Type 0
 pub record WrittenBackPromise : Type 0 where
   -- tolerant or strict, from any start; the rest of the output keeps
   pub exactly : (mode : Mode) (max : Max) (m : List ℕ) (s : ℕ) (c : Call) → Bytes m → Meets (reading either mode max m s c) c
-      → (x : HeaderBody) (tail : ℕ) → c.answer ≡ Accepted x tail → (w : Write) → MeetsWriter w → Hands m c x w → tail - s ≤ length w.before
-      → (w.answer ≡ Written (tail - s)) × (w.after ≡ filled (bytes_at m s (tail - s)) w.before)
+      → (x : HeaderBody) (tail : ℕ) → c.answer ≡ Ok (record { value = x; tail = tail }) → (w : Write) → MeetsWriter w → Hands m c x w → tail - s ≤ length w.before
+      → (w.answer ≡ Ok (tail - s)) × (w.after ≡ filled (bytes_at m s (tail - s)) w.before)

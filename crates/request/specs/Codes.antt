@@ -1,4 +1,5 @@
 -- The parts of a request, as the definitions have them. Assumes nothing.
+use Rattle.std.specs.Prelude.{ℕ, Option, Some, None}
 use Rattle.format.specs.Context.{tolerant, strict}
 use Rattle.format.specs.Context.{Mode as ModeAsked}
 use Rattle.format.specs.Keys.{no_max, at_most}
@@ -7,8 +8,6 @@ use Rattle.format.specs.Policies.{no_policy, forbid_encrypt_allow_decrypt, requi
 use Rattle.format.specs.Policies.{Policy as PolicyAsked}
 use Rattle.format.specs.Body.{either, v1_only, v2_only}
 use Rattle.format.specs.Body.{Which as WhichAsked}
-use Rattle.request.specs.declared.Max.{Max}
-use Rattle.request.specs.declared.Max.TheVariants.{None, AtMost}
 use Rattle.request.specs.declared.Mode.{Mode}
 use Rattle.request.specs.declared.Mode.TheVariants.{Tolerant, Strict}
 use Rattle.request.specs.declared.Which.{Which}
@@ -16,9 +15,9 @@ use Rattle.request.specs.declared.Which.TheVariants.{Either, V1Only, V2Only}
 use Rattle.request.specs.declared.Policy.{Policy}
 use Rattle.request.specs.declared.Policy.TheVariants as policy
 
-abbrev pub max_of : Max → MaxAsked
+abbrev pub max_of : Option ℕ → MaxAsked
 max_of None = no_max
-max_of (AtMost n) = at_most n
+max_of (Some n) = at_most n
 
 abbrev pub mode_of : Mode → ModeAsked
 mode_of Tolerant = tolerant

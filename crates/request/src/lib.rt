@@ -5,43 +5,41 @@ ghost use Rattle.std.specs.Prelude.{◌≡◌};
 ghost use Rattle.format.specs.Policies.{lets_write, lets_read};
 ghost use Rattle.request.specs.Codes.{policy_of};
 
-// The key maximum: none, or a number of keys.
-#[derive(Clone, Copy)]
-pub enum Max {
-    None,
-    AtMost(u64),
-}
-
 // Whether an empty context in its old form, 00 02 00 00, is accepted.
-#[derive(Clone, Copy)]
+#[derive(Clone, Copy, Default)]
 pub enum Mode {
+    #[default]
     Tolerant,
     Strict,
 }
 
 // Which version a body reader accepts.
-#[derive(Clone, Copy)]
+#[derive(Clone, Copy, Default)]
 pub enum Which {
+    #[default]
     Either,
     V1Only,
     V2Only,
 }
 
 // The SDK's commitment policies, by their names there.
-#[derive(Clone, Copy)]
+#[derive(Clone, Copy, Default)]
 pub enum Policy {
+    #[default]
     None,
     ForbidEncryptAllowDecrypt,
     RequireEncryptAllowDecrypt,
     RequireEncryptRequireDecrypt,
 }
 
-#[derive(Clone, Copy)]
+// By default a body of either version is read, tolerantly, with any number of keys and no policy.
+#[derive(Clone, Copy, Default)]
 pub struct Request {
     pub which: Which,
     pub policy: Policy,
     pub mode: Mode,
-    pub max: Max,
+    // At most so many keys; or any number.
+    pub max: Option<u64>,
 }
 
 impl Policy {

@@ -3,7 +3,6 @@ use Prim.Native.Nat.{ℕ, ◌+◌, ◌/◌, ◌≤◌, ◌<◌}
 use native.Mathlib.Omega.{arith}
 use mathlib.Core.Path.{◌≡◌, refl, sym, ◌∙◌}
 use mathlib.Core.List.{List}
-use lib.Dec.{eqb}
 use lib.ListN.{length}
 use mathlib.Core.Bool.{Bool, true, false}
 use Rattle.format.specs.Serialize.{write_uint16, write_short_length_seq, images}
@@ -14,26 +13,14 @@ use Rattle.format.specs.Checks.{first}
 use Rattle.format.specs.Lent.{parts_in, pairs_in, writing_aad_section, writing_encrypted_data_keys_section}
 use Rattle.format.proofs.Serialize.{length_uint16}
 use Rattle.wire.specs.Stored.{stored}
-use Rattle.checks.specs.Answers.{checked}
+use Rattle.checks.specs.Answers.{Checked, checked}
 use Rattle.checks.specs.Table.{Passed, entries_size}
-use Rattle.fields.specs.Codes.{form_of}
-use Rattle.fields.specs.declared.Form.{Form}
-use Rattle.fields.specs.declared.Form.TheVariants.{Today, Old}
-use Rattle.checks.specs.declared.Checked.{Checked}
-use Rattle.checks.specs.declared.Checked.TheVariants.{Passes}
 use Rattle.checks.proofs.Stages.{stage_none}
 use Rattle.checks.proofs.SectionChecks.{pairs_passed, pairs_few, keys_passed}
 use Rattle.checks.proofs.Writers.{chain, still_long}
 use Rattle.section_write.specs.Sizes.{length_alone, aad_section_size, keys_section_size, PairsReady, KeysReady}
 use Rattle.section_write.proofs.Images.{expanded_are, alone_is, expanded_is, aad_long, keys_are, keys_long}
-
--- whether the form asks for the length alone
-module _ (form : Form) (table : List ℕ) where
-  pub alone_today : form ≡ Today → eqb (length table / 4) 0 ≡ length_alone (form_of form) table
-  alone_today e = rw e
-
-  pub alone_old : form ≡ Old → false ≡ length_alone (form_of form) table
-  alone_old e = rw e
+use Rattle.std.specs.Prelude.{Ok}
 
 -- the context section's size
 module _ (form : Mark) (table : List ℕ) (b : Bool) (is : b ≡ length_alone form table) where
@@ -84,7 +71,7 @@ module _ (text table out : List ℕ) where
   today_stored o q = q
 
 -- what checks that passed give
-module _ (text table : List ℕ) (c : Checked) (is : c ≡ checked (first (writing_aad_section text table).checks)) (e : c ≡ Passes) where
+module _ (text table : List ℕ) (c : Checked) (is : c ≡ checked (first (writing_aad_section text table).checks)) (e : c ≡ Ok tt) where
   passed_4 : Passed 4 text table
   passed_4 = pairs_passed text table (stage_none _ c is e)
 
@@ -98,7 +85,7 @@ module _ (text table : List ℕ) (c : Checked) (is : c ≡ checked (first (writi
   unfolding writing_aad_section
   aad_length n q = q ∙ sym (aad_long text table today passed_4)
 
-module _ (text table : List ℕ) (c : Checked) (is : c ≡ checked (first (writing_encrypted_data_keys_section text table).checks)) (e : c ≡ Passes) where
+module _ (text table : List ℕ) (c : Checked) (is : c ≡ checked (first (writing_encrypted_data_keys_section text table).checks)) (e : c ≡ Ok tt) where
   passed_6 : Passed 6 text table
   passed_6 = keys_passed text table (stage_none _ c is e)
 

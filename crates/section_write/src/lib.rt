@@ -17,9 +17,8 @@ ghost use Rattle.section_write.specs.Sizes.{length_alone, aad_section_size, keys
 use checks::keys::check_keys;
 use checks::pairs::check_pairs;
 use checks::tables::entries_size;
-use checks::{Checked, WriteAnswer, refuses};
 use fields::Form;
-use wire::refusals::OUTPUT_TOO_SHORT;
+use wire::refusals::{Reason, Refusal};
 use wire::writing::write_uint16;
 
 // An empty context in today's form is its length 0 alone.
@@ -84,33 +83,31 @@ pub fn put_keys_section(text: &[u8], keys: &[u32], out: &mut [u8])
 }
 
 // Write a context section: 26; 27; per pair 10, 11, 12; 13; 28.
-pub fn write_aad_section(text: &[u8], pairs: &[u32], out: &mut [u8]) -> WriteAnswer
+pub fn write_aad_section(text: &[u8], pairs: &[u32], out: &mut [u8]) -> Result<usize, Refusal>
     ensures { Writes (writing_aad_section text.now pairs.now) out.old out.new result }
 {
-    let c = check_pairs(text, pairs);
-    if let Checked::Fails(r) = c {
-        return WriteAnswer::Refused(r);
-    }
+    check_pairs(text, pairs)?;
     let size = aad_section_size(Form::Today, pairs);
     if out.len() < size {
-        return refuses(OUTPUT_TOO_SHORT);
+        return Err(Reason::OutputTooShort.into());
     }
     put_aad_section(Form::Today, text, pairs, out);
-    WriteAnswer::Written(size)
+    Ok(size)
 }
 
 // Write a key section: 26; 27; per key 16; 28.
-pub fn write_encrypted_data_keys_section(text: &[u8], keys: &[u32], out: &mut [u8]) -> WriteAnswer
+pub fn write_encrypted_data_keys_section(
+    text: &[u8],
+    keys: &[u32],
+    out: &mut [u8],
+) -> Result<usize, Refusal>
     ensures { Writes (writing_encrypted_data_keys_section text.now keys.now) out.old out.new result }
 {
-    let c = check_keys(text, keys);
-    if let Checked::Fails(r) = c {
-        return WriteAnswer::Refused(r);
-    }
+    check_keys(text, keys)?;
     let size = keys_section_size(keys);
     if out.len() < size {
-        return refuses(OUTPUT_TOO_SHORT);
+        return Err(Reason::OutputTooShort.into());
     }
     put_keys_section(text, keys, out);
-    WriteAnswer::Written(size)
+    Ok(size)
 }

@@ -2,37 +2,35 @@
 use mathlib.Core.Path.{◌≡◌, refl, sym, ap, ◌∙◌}
 use mathlib.Core.Bool.{Bool, true, false, cond, not}
 use Prim.Native.Nat.{ℕ}
-use native.Mathlib.Omega.{arith}
 use lib.Dec.{eqb}
 use borrow.Author.Tests.{eq-eqb, ne_eqb, eqb-true, eqb-false}
+use Rattle.std.specs.Prelude.{Option, Some, None}
 use Rattle.format.specs.Shared.{suite_version, known}
 use Rattle.suites.specs.Table.{suite_of}
 use Rattle.suites.specs.declared.Suite.{Suite}
-use Rattle.suites.specs.declared.SuiteAnswer.{SuiteAnswer}
-use Rattle.suites.specs.declared.SuiteAnswer.TheVariants.{Known, Unknown}
 
 pub record IsSuite (n : ℕ) (k : Suite) : Type 0 where
   pub number : k.number ≡ n
   pub version : k.version ≡ suite_version n
   pub some : k.version ≡ 0 → ⊥
 
-module _ (n : ℕ) (x : SuiteAnswer) (is : x ≡ suite_of n) where
-  pub no_version : x ≡ Unknown → suite_version n ≡ 0
+module _ (n : ℕ) (x : Option Suite) (is : x ≡ suite_of n) where
+  pub no_version : x ≡ None → suite_version n ≡ 0
   no_version e = by (eqb (suite_version n) 0) refl (sym e ∙ is)
     where
-      by : (c : Bool) → eqb (suite_version n) 0 ≡ c → Unknown ≡ cond c Unknown (Known (record { number = n; version = suite_version n })) → suite_version n ≡ 0
+      by : (c : Bool) → eqb (suite_version n) 0 ≡ c → ◌≡◌ {A = Option Suite} None (cond c None (Some (record { number = n; version = suite_version n }))) → suite_version n ≡ 0
       by true q f = eqb-true _ _ q
-      by false q f = let z : ◌≡◌ {A = ℕ} 0 1 = cc in absurd (omega arith)
+      by false q f = cc
 
-  pub unknown : x ≡ Unknown → known n ≡ false
+  pub unknown : x ≡ None → known n ≡ false
   unknown e = ap not (eq-eqb _ _ (no_version e))
 
-  module _ (k : Suite) (e : x ≡ Known k) where
+  module _ (k : Suite) (e : x ≡ Some k) where
     pub suite_is : IsSuite n k
     suite_is = by (eqb (suite_version n) 0) refl (sym e ∙ is)
       where
-        by : (c : Bool) → eqb (suite_version n) 0 ≡ c → Known k ≡ cond c Unknown (Known (record { number = n; version = suite_version n })) → IsSuite n k
-        by true q f = let z : ◌≡◌ {A = ℕ} 0 1 = cc in absurd (omega arith)
+        by : (c : Bool) → eqb (suite_version n) 0 ≡ c → ◌≡◌ {A = Option Suite} (Some k) (cond c None (Some (record { number = n; version = suite_version n }))) → IsSuite n k
+        by true q f = cc
         by false q f = let y : k ≡ record { number = n; version = suite_version n } = cc in rw y (record { number = refl; version = refl; some = eqb-false _ _ q })
 
     pub its_version : k.version ≡ suite_version n

@@ -1,62 +1,8 @@
 // The suite table, looking a suite up in it, and the constants that belong to a suite.
 #![tactic(auto)]
 
-ghost use Rattle.std.specs.Prelude.{◌≡◌, ◌+◌, ◌*◌};
+ghost use Rattle.std.specs.Prelude.{◌≡◌, ◌+◌, ◌*◌, find, ◌==◌};
 ghost use Rattle.suites.specs.Table.{suite_of};
-
-#[derive(Clone, Copy)]
-struct SuiteRow {
-    number: u32,
-    version: u8,
-}
-
-// From the specification of the AWS Encryption SDK; the suites of version 2 are the committing ones.
-const SUITES: [SuiteRow; 11] = [
-    SuiteRow {
-        number: 0x0014,
-        version: 1,
-    },
-    SuiteRow {
-        number: 0x0046,
-        version: 1,
-    },
-    SuiteRow {
-        number: 0x0078,
-        version: 1,
-    },
-    SuiteRow {
-        number: 0x0114,
-        version: 1,
-    },
-    SuiteRow {
-        number: 0x0146,
-        version: 1,
-    },
-    SuiteRow {
-        number: 0x0178,
-        version: 1,
-    },
-    SuiteRow {
-        number: 0x0214,
-        version: 1,
-    },
-    SuiteRow {
-        number: 0x0346,
-        version: 1,
-    },
-    SuiteRow {
-        number: 0x0378,
-        version: 1,
-    },
-    SuiteRow {
-        number: 0x0478,
-        version: 2,
-    },
-    SuiteRow {
-        number: 0x0578,
-        version: 2,
-    },
-];
 
 // A suite of the table.
 #[derive(Clone, Copy)]
@@ -65,10 +11,59 @@ pub struct Suite {
     pub version: u8,
 }
 
-#[derive(Clone, Copy)]
-pub enum SuiteAnswer {
-    Known(Suite),
-    Unknown,
+// From the specification of the AWS Encryption SDK; the suites of version 2 are the committing ones.
+const SUITES: [Suite; 11] = [
+    Suite {
+        number: 0x0014,
+        version: 1,
+    },
+    Suite {
+        number: 0x0046,
+        version: 1,
+    },
+    Suite {
+        number: 0x0078,
+        version: 1,
+    },
+    Suite {
+        number: 0x0114,
+        version: 1,
+    },
+    Suite {
+        number: 0x0146,
+        version: 1,
+    },
+    Suite {
+        number: 0x0178,
+        version: 1,
+    },
+    Suite {
+        number: 0x0214,
+        version: 1,
+    },
+    Suite {
+        number: 0x0346,
+        version: 1,
+    },
+    Suite {
+        number: 0x0378,
+        version: 1,
+    },
+    Suite {
+        number: 0x0478,
+        version: 2,
+    },
+    Suite {
+        number: 0x0578,
+        version: 2,
+    },
+];
+
+// The first suite of the rows with the number.
+fn find_in(rows: &[Suite], number: u32) -> Option<Suite>
+    ensures { result ≡ find (λ s. s.number == number) rows.now }
+{
+    rows.iter().find(|s| s.number == number).copied()
 }
 
 impl Suite {
@@ -80,25 +75,16 @@ impl Suite {
     pub const COMMIT_LEN: usize = 32;
 
     // A number as a host hands it over: one wider than 16 bits is in no row.
-    pub fn from_number(number: u32) -> SuiteAnswer
+    pub fn from_number(number: u32) -> Option<Suite>
         ensures { result ≡ suite_of number }
     {
-        let mut i: usize = 0;
-        while i < 11 {
-            let row = SUITES[i];
-            if row.number == number {
-                let version = row.version;
-                return SuiteAnswer::Known(Suite { number, version });
-            }
-            i += 1;
-        }
-        SuiteAnswer::Unknown
+        find_in(&SUITES, number)
     }
 
     // By the two bytes as they are stored.
-    pub fn from_bytes(high: u8, low: u8) -> SuiteAnswer
+    pub fn from_bytes(high: u8, low: u8) -> Option<Suite>
         ensures { result ≡ suite_of (high * 256 + low) }
     {
-        Suite::from_number((high as u32) * 256 + (low as u32))
+        Suite::from_number(u32::from(u16::from_be_bytes([high, low])))
     }
 }

@@ -1,24 +1,19 @@
--- The decimal numeral: its last digit, that it is the right one, and the steps of writing it. Assumes nothing.
+-- The decimal numeral: its last digit, that it is the right one, and that it is std's. Assumes nothing.
 use mathlib.Core.Path.{◌≡◌, refl, sym, ap, ◌∙◌}
 use mathlib.Core.Bool.{Bool, true, false}
-use mathlib.Core.List.{List, [], ◌∷◌, ◌++◌, append_assoc, append-nil}
+use mathlib.Core.List.{List, [], ◌∷◌, ◌++◌}
 use mir.Syntax.{w64}
 use mir.Val.{Fits}
 use Prim.Native.Nat.{ℕ, zero, suc, ◌+◌, ◌*◌, ◌-◌, ◌/◌, ◌%◌, ◌^◌, ◌≤◌, ◌<◌}
 use native.Mathlib.Omega.{arith}
 use native.Mathlib.Nat.{not-suc-le-zero, pow-suc}
-use native.Mathlib.Numerals.{add-one}
 use lib.Dec.{ltb}
-use lib.ListN.{length, get_or, take, drop, set, length-append, length-drop, length-set, get_or-append, drop_of_length-le}
-use lib.Seq.{drop-cons, get_or-set_same, drop-set-lt, take_all}
+use lib.ListN.{length, get_or, length-append, get_or-append}
 use borrow.Author.Tests.{lt-ltb, le-ltb, ltb-true, ltb-false}
-use Rattle.text.specs.Text.{digit, decimal_in, decimal}
-use Rattle.wire.specs.Stored.{stored}
-use Rattle.text.specs.Numerals.{value_from, Decimals, Numeral, Spelled}
-use Rattle.text.specs.Put.{Room, Put}
-
-digit_is : (d : ℕ) → d < 10 → digit d ≡ 48 + d
-digit_is d h = rw (lt-ltb d 10 h)
+use Rattle.text.specs.Text.{decimal_in, decimal}
+use Rattle.text.specs.Numerals.{value_from, Decimals, Numeral}
+use Rattle.std.specs.Fmt as std
+use Rattle.std.proofs.lemmas.Fmt.{AppendsLastDigit, decimal_from_appends, length-decimal-le_succ}
 
 in_short : (k n : ℕ) → n < 10 → decimal_in (suc k) n ≡ (48 + n) ∷ []
 unfolding decimal_in
@@ -106,73 +101,13 @@ decimal_right n =
       tight = λ two. cases n (λ few. let one : length (decimal_in (suc n) n) ≡ 1 = ap length (in_short n n few) in absurd (omega arith)) (λ many. d.first (omega arith));
     }
 
--- a digit is written before those that stand there
-last_drop : (l : List ℕ) (i x : ℕ) → i < length l → drop i (set l i x) ≡ x ∷ drop (i + 1) l
-last_drop l i x h =
-    let k : i < length (set l i x) = rw length-set h in
-    drop-cons (set l i x) i 0 k ∙ rw (get_or-set_same l i x 0 h, add-one, drop-set-lt (suc i) l i x (omega arith))
+-- the numeral is std's, which itoa writes
+module _ (n : ℕ) (fit : Fits w64 n) where
+  pub decimal_std : std.decimal n ≡ decimal n
+  unfolding decimal
+  decimal_std =
+      let own : AppendsLastDigit decimal_in = record { one = in_short; more = in_long } in
+      sym (decimal_from_appends decimal_in own (suc n) n (omega (arith, fit.fits)) (omega (length-decimal-le_succ n (omega (arith, fit.fits)), arith)))
 
--- the loop's invariant: what is left of n, and the digits behind it
-pub record Spelling (n : ℕ) (text : List ℕ) (rest i : ℕ) : Type 0 where
-  pub inside : i < 20
-  pub long : length text ≡ 20
-  pub small : rest < 10 ^ (i + 1)
-  pub same : decimal n ≡ decimal rest ++ drop (i + 1) text
-
-pub spelling_start : (n : ℕ) (text : List ℕ) → Fits w64 n → length text ≡ 20 → Spelling n text n 19
-spelling_start n text fit l =
-    let none : drop 20 text ≡ [] = drop_of_length-le text {i = 20} (omega arith) in
-    record { inside = omega arith; long = l; small = omega (arith, fit.fits); same = rw (none, append-nil) }
-
-pub spelling_index : (n : ℕ) (text : List ℕ) (rest i : ℕ) → Spelling n text rest i → i < length text
-spelling_index n text rest i s = omega (arith, s.inside, s.long)
-
-power : (i : ℕ) → 10 ^ (i + 1) ≡ 10 ^ i * 10
-power i = rw (add-one, pow-suc 10 i)
-
-below_one : (rest i : ℕ) → rest < 10 ^ (i + 1) → 10 ≤ rest → 0 < i
-below_one rest zero h g = absurd (omega arith)
-below_one rest (suc i) h g = omega arith
-
-module _ (n : ℕ) (text : List ℕ) (rest i : ℕ) (s : Spelling n text rest i) where
-  pub spelling_some : 10 ≤ rest → 1 ≤ i
-  spelling_some h = below_one rest i s.small h
-
-  pub spelling_more : 10 ≤ rest → Spelling n (set text i (48 + rest % 10)) (rest / 10) (i - 1)
-  spelling_more h =
-      let p = below_one rest i s.small h in
-      let e : i - 1 + 1 ≡ i = omega arith in
-      let w : rest < 10 ^ i * 10 = rw (power i) at s.small in
-      record {
-        inside = omega (arith, s.inside);
-        long = rw length-set s.long;
-        small = rw e (omega arith);
-        same = s.same ∙ rw (e, decimal_long rest h, last_drop text i (48 + rest % 10) (spelling_index n text rest i s)) (append_assoc (decimal (rest / 10)) ((48 + rest % 10) ∷ []) (drop (i + 1) text));
-      }
-
-  pub spelling_long : (before : List ℕ) (x : ℕ) → length before ≡ 20 → length (set text i x) ≡ length before
-  spelling_long before x e = rw length-set (s.long ∙ sym e)
-
-  pub spelling_end : rest < 10 → Spelled n (set text i (48 + rest)) i
-  spelling_end h =
-      record {
-        inside = omega (arith, s.inside);
-        long = rw length-set s.long;
-        is = last_drop text i (48 + rest) (spelling_index n text rest i s) ∙ sym (s.same ∙ rw (decimal_short rest h));
-      }
-
-pub spelled_size : (n : ℕ) (text : List ℕ) (r : ℕ) → Spelled n text r → 20 - r ≡ length (decimal n)
-spelled_size n text r s = rw (← s.is, length-drop, s.long)
-
-pub spelled_within : (n : ℕ) (text : List ℕ) (r : ℕ) → Spelled n text r → r + (20 - r) ≤ length text
-spelled_within n text r s = omega (arith, s.inside, s.long)
-
-module _ (n : ℕ) (text : List ℕ) (r : ℕ) (s : Spelled n text r) (d : List ℕ) (at : ℕ) (room : Room d at (decimal n)) where
-  pub spelled_fits : at + (20 - r) ≤ length d
-  spelled_fits = rw (spelled_size n text r s) room.fits
-
-  pub spelled_put : (o : List ℕ) → o ≡ stored d at (take (20 - r) (drop r text)) → Put (decimal n) d at o (at + (20 - r))
-  spelled_put o e =
-      let l : length (decimal n) ≡ 20 - r = sym (spelled_size n text r s) in
-      let all : take (20 - r) (drop r text) ≡ decimal n = rw s.is (take_all (20 - r) (decimal n) (omega arith)) in
-      record { fits = room; ends = omega arith; holds = e ∙ ap (stored d at) all }
+  pub decimal_within : length (decimal n) ≤ 20
+  decimal_within = decimal_few 19 n (omega (arith, fit.fits))

@@ -3,3 +3,4 @@ pub mod Puts
 pub mod Going
 pub mod Loops
 pub mod LineLaws
+pub mod Sizes

@@ -1,113 +1,60 @@
--- The three loops: over the bytes of a part, over the parts of an item, over items. Assumes nothing.
-use mathlib.Core.Path.{◌≡◌, refl, ap}
-use mathlib.Core.List.{List, ◌∷◌, ◌++◌}
-use mir.Syntax.{w64}
-use mir.Val.{Fits}
-use Prim.Native.Nat.{ℕ, zero, suc, ◌+◌, ◌*◌, ◌^◌, ◌≤◌, ◌<◌}
+-- The loops over bytes, over the parts of an item, over items. Assumes nothing.
+use mathlib.Core.Path.{◌≡◌}
+use mathlib.Core.List.{List, [], ◌∷◌, ◌++◌}
+use Prim.Native.Nat.{ℕ, ◌+◌, ◌*◌, ◌≤◌, ◌<◌}
+use native.Mathlib.Nat.{zero-add}
 use native.Mathlib.Numerals.{add-one}
-use native.Mathlib.Omega.{arith}
-use lib.ListN.{length, get_or, take, drop, length-take, length-drop}
+use lib.ListN.{length, get_or, drop, drop_of_length-le}
 use lib.Seq.{drop-cons}
 use Rattle.format.specs.Serialize.{images}
-use Rattle.format.specs.Lent.{bytes_at, items, here}
-use Rattle.format.specs.Demand3.{Each}
-use Rattle.wire.specs.Stored.{stored}
+use Rattle.text.specs.declared.Text.{Text}
 use Rattle.text.specs.Text.{hex, hex_byte}
-use Rattle.text.specs.Put.{Room, Put, There, All, texts, ByteThere, byte_digits, PartThere, ItemThere, part_field, item_line}
-use Rattle.text.proofs.Going.{Going}
-use Rattle.text.proofs.Going as going
+use Rattle.text.specs.Put.{Room, Put, PartThere, ItemThere, item_line}
+use Rattle.text.specs.Items.{line_of}
+use Rattle.text.specs.declared.fields.Items.{Items}
+use Rattle.text.proofs.Going.{Going, going_start, going_end, going_here, going_more, all_at, Row, row_here, row_more}
 
--- the bytes of a part, by their places
-module _ (m : List ℕ) where
-  inside : (n s : ℕ) → length (take (suc n) (drop s m)) ≡ suc n → s < length m
-  inside n s e = omega (arith, simp (length-take, length-drop) at e)
+-- the bytes of a part: the digits of those from i on are left
+pub record Bytes (bytes : List ℕ) (t u : Text) (i : ℕ) : Type 0 where
+  pub going : Going (hex bytes) (hex (drop i bytes)) t u
 
-  first_byte : (n s : ℕ) → length (take (suc n) (drop s m)) ≡ suc n → drop s m ≡ get_or m s 0 ∷ drop (s + 1) m
-  first_byte n s e = rw add-one (drop-cons m s 0 (inside n s e))
+pub bytes_start : (bytes : List ℕ) (t : Text) → Room t (hex bytes) → Bytes bytes t t 0
+bytes_start bytes t h = record { going = going_start (hex bytes) t h }
 
-  others : (n s : ℕ) → length (take (suc n) (drop s m)) ≡ suc n → length (take n (drop (s + 1) m)) ≡ n
-  others n s e = omega (arith, rw (first_byte n s e) at e)
+module _ (bytes : List ℕ) (t u : Text) (i : ℕ) (w : Bytes bytes t u i) where
+  pub bytes_end : length bytes ≤ i → Put (hex bytes) t u
+  unfolding images
+  bytes_end h = let e : drop i bytes ≡ [] = drop_of_length-le bytes h in going_end (hex bytes) t u (rw e at w.going)
 
-  by_place : (n s : ℕ) → length (take n (drop s m)) ≡ n → hex (take n (drop s m)) ≡ texts (byte_digits m) 1 n s
-  unfolding images items byte_digits
-  by_place zero s e = refl
-  by_place (suc n) s e = rw (first_byte n s e) (ap (λ (t : List ℕ). hex_byte (get_or m s 0) ++ t) (by_place n (s + 1) (others n s e)))
+  module _ (h : i < length bytes) where
+    rest : Going (hex bytes) (hex_byte (get_or bytes i 0) ++ hex (drop (i + 1) bytes)) t u
+    unfolding images
+    rest =
+        let e : drop i bytes ≡ get_or bytes i 0 ∷ drop (i + 1) bytes = rw add-one (drop-cons bytes i 0 h) in
+        rw e at w.going
 
-  each_byte : (n s : ℕ) → length (take n (drop s m)) ≡ n → Each (ByteThere m) (items here 1 n s)
-  unfolding items
-  each_byte zero s e = tt
-  each_byte (suc n) s e = (inside n s e, each_byte n (s + 1) (others n s e))
+    pub bytes_here : Room u (hex_byte (get_or bytes i 0))
+    bytes_here = going_here (hex bytes) t u (hex_byte (get_or bytes i 0)) (hex (drop (i + 1) bytes)) rest
 
-module _ (m : List ℕ) (n first : ℕ) (there : There m first n) (d : List ℕ) (s : ℕ) where
-  pub hex_start : Room d s (hex (bytes_at m first n)) → Going (byte_digits m) (ByteThere m) 1 n first d s d 0 first s
-  hex_start h =
-      going.start (byte_digits m) (ByteThere m) 1 n first d s (record { each = each_byte m n first there.whole })
-      (rw (by_place m n first there.whole) at h)
-
-  pub hex_end : (o : List ℕ) (i j r : ℕ) → Going (byte_digits m) (ByteThere m) 1 n first d s o i j r → n ≤ i → Put (hex (bytes_at m first n)) d s o r
-  hex_end o i j r w h = rw (by_place m n first there.whole) (going.end (byte_digits m) (ByteThere m) 1 n first d s o i j r w h)
-
-module _ (m : List ℕ) (n first : ℕ) (d : List ℕ) (s : ℕ) (o : List ℕ) (i j r : ℕ) (w : Going (byte_digits m) (ByteThere m) 1 n first d s o i j r) (h : i < n) where
-  pub hex_index : j < length m
-  hex_index = going.at_place (byte_digits m) (ByteThere m) 1 n first d s o i j r w h
-
-  pub hex_room : r + 2 ≤ length o
-  unfolding byte_digits
-  hex_room = (going.room_here (byte_digits m) (ByteThere m) 1 n first d s o i j r w h).fits
-
-  pub hex_next : length m < 2 ^ 64 → Fits w64 (j + 1)
-  hex_next b = record { fits = omega (arith, hex_index) }
-
-  pub hex_behind : length d < 2 ^ 64 → Fits w64 (r + 2)
-  hex_behind b = record { fits = omega (arith, hex_room, w.long) }
-
-  pub hex_more : (q : List ℕ) → q ≡ stored o r (hex_byte (get_or m j 0)) → Going (byte_digits m) (ByteThere m) 1 n first d s q (i + 1) (j + 1) (r + 2)
-  unfolding byte_digits
-  hex_more q e =
-      going.more (byte_digits m) (ByteThere m) 1 n first d s o i j r w h q (r + 2)
-      (record { fits = going.room_here (byte_digits m) (ByteThere m) 1 n first d s o i j r w h; ends = refl; holds = e })
+    pub bytes_more : (v : Text) → Put (hex_byte (get_or bytes i 0)) u v → Bytes bytes t v (i + 1)
+    bytes_more v p = record { going = going_more (hex bytes) t u (hex_byte (get_or bytes i 0)) (hex (drop (i + 1) bytes)) rest v p }
 
 -- the parts of an item
-module _ (m table : List ℕ) (n first : ℕ) (d : List ℕ) (s : ℕ) where
-  pub parts_start : All (PartThere m table) 2 n first → Room d s (texts (part_field m table) 2 n first) → Going (part_field m table) (PartThere m table) 2 n first d s d 0 first s
-  parts_start = going.start (part_field m table) (PartThere m table) 2 n first d s
+module _ (x : Items) (i : ℕ) (h : i < x.count) where
+  item_there : ItemThere x.message.now x.table.now x.parts (2 * x.parts * i)
+  item_there = rw zero-add at (all_at (ItemThere x.message.now x.table.now x.parts) (2 * x.parts) x.count 0 x.there i h)
 
-  module _ (o : List ℕ) (i j r : ℕ) (w : Going (part_field m table) (PartThere m table) 2 n first d s o i j r) where
-    pub parts_end : n ≤ i → Put (texts (part_field m table) 2 n first) d s o r
-    parts_end = going.end (part_field m table) (PartThere m table) 2 n first d s o i j r w
-
-    module _ (h : i < n) where
-      pub parts_here : PartThere m table j
-      parts_here = going.at_place (part_field m table) (PartThere m table) 2 n first d s o i j r w h
-
-      pub parts_room : Room o r (part_field m table j)
-      parts_room = going.room_here (part_field m table) (PartThere m table) 2 n first d s o i j r w h
-
-      pub parts_next : length table < 2 ^ 64 → Fits w64 (j + 2)
-      parts_next b = record { fits = omega (arith, parts_here.numbers) }
-
-      pub parts_more : (q : List ℕ) (e : ℕ) → Put (part_field m table j) o r q e → Going (part_field m table) (PartThere m table) 2 n first d s q (i + 1) (j + 2) e
-      parts_more = going.more (part_field m table) (PartThere m table) 2 n first d s o i j r w h
+  module _ (k : ℕ) (l : k < x.parts) where
+    pub part_there : PartThere x.message.now x.table.now (2 * x.parts * i + 2 * k)
+    part_there = all_at (PartThere x.message.now x.table.now) 2 x.parts (2 * x.parts * i) item_there.parts k l
 
 -- items
-module _ (m table word : List ℕ) (n count : ℕ) (d : List ℕ) (s : ℕ) where
-  pub items_start : All (ItemThere m table n) (2 * n) count 0 → Room d s (texts (item_line m table word n) (2 * n) count 0)
-      → Going (item_line m table word n) (ItemThere m table n) (2 * n) count 0 d s d 0 0 s
-  items_start = going.start (item_line m table word n) (ItemThere m table n) (2 * n) count 0 d s
+abbrev pub Lines : Items → List ℕ → Text → Text → ℕ → Type 0
+Lines x word = Row (item_line x.message.now x.table.now word x.parts) (2 * x.parts) x.count 0
 
-  module _ (o : List ℕ) (i j r : ℕ) (w : Going (item_line m table word n) (ItemThere m table n) (2 * n) count 0 d s o i j r) where
-    pub items_end : count ≤ i → Put (texts (item_line m table word n) (2 * n) count 0) d s o r
-    items_end = going.end (item_line m table word n) (ItemThere m table n) (2 * n) count 0 d s o i j r w
+module _ (x : Items) (word : List ℕ) (t u : Text) (i : ℕ) (w : Lines x word t u i) (h : i < x.count) where
+  pub item_here : Room u (line_of x word i)
+  item_here = rw zero-add at (row_here (item_line x.message.now x.table.now word x.parts) (2 * x.parts) x.count 0 t u i w h)
 
-    module _ (h : i < count) where
-      pub items_here : ItemThere m table n j
-      items_here = going.at_place (item_line m table word n) (ItemThere m table n) (2 * n) count 0 d s o i j r w h
-
-      pub items_room : Room o r (item_line m table word n j)
-      items_room = going.room_here (item_line m table word n) (ItemThere m table n) (2 * n) count 0 d s o i j r w h
-
-      pub items_next : length table < 2 ^ 64 → Fits w64 (j + 2 * n)
-      items_next b = record { fits = omega (arith, items_here.numbers) }
-
-      pub items_more : (q : List ℕ) (e : ℕ) → Put (item_line m table word n j) o r q e → Going (item_line m table word n) (ItemThere m table n) (2 * n) count 0 d s q (i + 1) (j + 2 * n) e
-      items_more = going.more (item_line m table word n) (ItemThere m table n) (2 * n) count 0 d s o i j r w h
+  pub item_more : (v : Text) → Put (line_of x word i) u v → Lines x word t v (i + 1)
+  item_more v p = row_more (item_line x.message.now x.table.now word x.parts) (2 * x.parts) x.count 0 t u i w h v (rw zero-add p)

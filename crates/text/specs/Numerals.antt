@@ -1,6 +1,5 @@
--- What makes a numeral the right one, and what the code's steps say of one. Assumes nothing.
-use Rattle.std.specs.Prelude.{◌≡◌, List, [], ◌∷◌, ℕ, ◌+◌, ◌*◌, ◌-◌, ◌≤◌, ◌<◌, length, get_or, drop}
-use Rattle.text.specs.Text.{decimal}
+-- What makes a numeral the right one. Assumes nothing.
+use Rattle.std.specs.Prelude.{◌≡◌, List, [], ◌∷◌, ℕ, ◌+◌, ◌*◌, ◌-◌, ◌≤◌, ◌<◌, length, get_or}
 
 -- the number that decimal digits stand for, behind the number n
 unfoldable pub value_from : ℕ → List ℕ → ℕ
@@ -18,9 +17,3 @@ pub record Numeral (n : ℕ) (text : List ℕ) : Type 0 where
   pub digits : Decimals text
   pub value : value_from 0 text ≡ n
   pub tight : 1 < length text → 48 < get_or text 0 0
-
--- the numeral of n ends the 20 characters, from r on
-pub record Spelled (n : ℕ) (text : List ℕ) (r : ℕ) : Type 0 where
-  pub inside : r ≤ 20
-  pub long : length text ≡ 20
-  pub is : drop r text ≡ decimal n

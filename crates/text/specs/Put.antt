@@ -1,20 +1,22 @@
 -- How a text comes into the output: what a step asks, and what it leaves. Assumes nothing.
-use Rattle.std.specs.Prelude.{◌≡◌, List, ℕ, ◌+◌, ◌*◌, ◌≤◌, ◌<◌, length, get_or}
-use Rattle.format.specs.Serialize.{images, sum}
+use Rattle.std.specs.Prelude.{◌≡◌, List, ℕ, ◌+◌, ◌*◌, ◌≤◌, length, get_or}
+use Rattle.format.specs.Serialize.{images}
 use Rattle.format.specs.Lent.{bytes_at, items, here, part_in}
 use Rattle.format.specs.Demand3.{Each}
 use Rattle.wire.specs.Stored.{stored}
-use Rattle.text.specs.Text.{hex, hex_byte, field, line}
+use Rattle.text.specs.Text.{hex, field, line}
+use Rattle.text.specs.declared.Text.{Text}
 
--- the text has room in the output from `at` on
-pub record Room (out : List ℕ) (at : ℕ) (text : List ℕ) : Type 0 where
-  pub fits : at + length text ≤ length out
+-- the added text has room in the output, behind what was put before
+pub record Room (t : Text) (added : List ℕ) : Type 0 where
+  pub fits : t.at + length added ≤ length t.out.now
 
--- the text stands there, r is the place behind it, and nothing else of the output changed
-pub record Put (text before : List ℕ) (at : ℕ) (after : List ℕ) (r : ℕ) : Type 0 where
-  pub fits : Room before at text
-  pub ends : r ≡ at + length text
-  pub holds : after ≡ stored before at text
+-- it stands there, the text ends behind it, and nothing else of the output, which is still the same, changed
+pub record Put (added : List ℕ) (before after : Text) : Type 0 where
+  pub same_output : after.out.ghost_name ≡ before.out.ghost_name
+  pub fits : Room before added
+  pub ends : after.at ≡ before.at + length added
+  pub holds : after.out.now ≡ stored before.out.now before.at added
 
 -- the message has that many bytes at the start
 pub record There (m : List ℕ) (start len : ℕ) : Type 0 where
@@ -33,13 +35,6 @@ pub record All (P : ℕ → Type 0) (k n j : ℕ) : Type 0 where
 abbrev pub texts : (ℕ → List ℕ) → ℕ → ℕ → ℕ → List ℕ
 texts g k n j = images g (items here k n j)
 
--- the byte at j of the message is there, and its two digits
-abbrev pub ByteThere : List ℕ → ℕ → Type 0
-ByteThere m j = j < length m
-
-unfoldable pub byte_digits : List ℕ → ℕ → List ℕ
-byte_digits m j = hex_byte (get_or m j 0)
-
 -- the part whose place stands at j, as a field
 unfoldable pub part_field : List ℕ → List ℕ → ℕ → List ℕ
 part_field m table j = field (hex (part_in m table j))
@@ -48,13 +43,10 @@ part_field m table j = field (hex (part_in m table j))
 abbrev pub item_line : List ℕ → List ℕ → List ℕ → ℕ → ℕ → List ℕ
 item_line m table word n j = line word (texts (part_field m table) 2 n j)
 
+-- a line for each of the items of n parts
+abbrev pub items_text : List ℕ → List ℕ → List ℕ → ℕ → ℕ → List ℕ
+items_text m table word n count = texts (item_line m table word n) (2 * n) count 0
+
 pub record ItemThere (m table : List ℕ) (n j : ℕ) : Type 0 where
   pub numbers : j + 2 * n ≤ length table
   pub parts : All (PartThere m table) 2 n j
-
--- how long a part's field is, by the table
-unfoldable pub part_size : List ℕ → ℕ → ℕ
-part_size table j = 1 + 2 * get_or table (j + 1) 0
-
-abbrev pub parts_size : List ℕ → ℕ → ℕ
-parts_size table n = sum (part_size table) (items here 2 n 0)

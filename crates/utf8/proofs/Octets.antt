@@ -1,47 +1,13 @@
--- What RFC 3629's table says of the bytes between two tests, and one byte more of a sequence. Assumes nothing.
-use Prim.Native.Nat.{ℕ, suc, ◌+◌, ◌≤◌, ◌<◌}
+-- One byte more of a sequence of octets. Assumes nothing.
+use Prim.Native.Nat.{ℕ, ◌+◌, ◌≤◌, ◌<◌}
 use mathlib.Core.Path.{◌≡◌, refl, ap, ◌∙◌}
-use mathlib.Core.Bool.{Bool, true, false, ◌&&◌, ◌||◌, and-false}
-use mathlib.Core.Logic.{⊎_elim}
+use mathlib.Core.Bool.{Bool, true, false, ◌&&◌, and-false}
 use mathlib.Core.List.{List, [], ◌∷◌}
 use native.Mathlib.Omega.{arith}
 use native.Mathlib.Numerals.{add-one}
 use lib.ListN.{length, get_or, drop, drop_of_length-le}
 use lib.Seq.{drop-cons}
-use lib.Dec.{T, leb, leb→le}
-use mir.Facts.{or_yes, and_yes}
-use borrow.Author.Tests.{le-leb, lt-leb}
-use Rattle.format.specs.Utf8.{Range, ◌‥◌, has, rows, Due, due, first_byte, octets, valid_utf8_seq}
-
--- a range's edge x does not lie between low and c
-abbrev outside : ℕ → ℕ → ℕ → Bool
-outside x low c = leb x low || leb c x
-
--- no row's first range begins or ends between them: a test that computes, so that no proof names a row
-unfoldable pub unbroken : List (List Range) → ℕ → ℕ → Bool
-unbroken [] low c = true
-unbroken ([] ∷ rs) low c = unbroken rs low c
-unbroken ((l ‥ h ∷ rest) ∷ rs) low c = outside l low c && (outside (suc h) low c && unbroken rs low c)
-
--- then the rows say of each byte from low up to c what they say of low
-module _ (low c b : ℕ) (p : low ≤ b) (q : b < c) where
-  side : {A : Type 0} (x : ℕ) → T (outside x low c) → (x ≤ low → x ≤ b → A) → (low < x → b < x → A) → A
-  side x t f g = ⊎_elim (λ u. f (leb→le x low u) (omega (arith, leb→le))) (λ u. g (omega (arith, leb→le)) (omega (arith, leb→le))) (or_yes (leb x low) (leb c x) t)
-
-  starts : (l : ℕ) → T (outside l low c) → leb l b ≡ leb l low
-  starts l t = side l t (λ u v. simp le-leb) (λ u v. simp lt-leb)
-
-  ends : (h : ℕ) → T (outside (suc h) low c) → leb b h ≡ leb low h
-  ends h t = side (suc h) t (λ u v. simp lt-leb) (λ u v. rw (le-leb b h (omega arith), le-leb low h (omega arith)))
-
-  pub alike : (rs : List (List Range)) → T (unbroken rs low c) → first_byte rs b ≡ first_byte rs low
-  unfolding unbroken first_byte
-  alike [] t = refl
-  alike ([] ∷ rs) t = alike rs t
-  alike ((l ‥ h ∷ rest) ∷ rs) t =
-      let e = and_yes (outside l low c) (outside (suc h) low c && unbroken rs low c) t in
-      let f = and_yes (outside (suc h) low c) (unbroken rs low c) e.1 in
-      rw (starts l e.0, ends h f.0, alike rs f.1)
+use Rattle.format.specs.Utf8.{Range, has, rows, Due, due, first_byte, octets, valid_utf8_seq}
 
 -- one byte more of a sequence
 next : (m : List ℕ) (i : ℕ) → i < length m → drop i m ≡ get_or m i 0 ∷ drop (i + 1) m

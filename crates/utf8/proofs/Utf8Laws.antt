@@ -1,18 +1,21 @@
 -- The ways out of the functions that `is_utf8` is made of, one law each. Assumes nothing.
 use Prim.Native.Nat.{ℕ, zero, suc, ◌+◌, ◌-◌, ◌≤◌, ◌<◌}
-use mathlib.Core.Path.{◌≡◌, refl, sym, ap, ◌∙◌}
+use mathlib.Core.Path.{◌≡◌, refl, sym, ap, subst, ◌∙◌}
+use Rattle.std.specs.Prelude.{Option, Some, None}
 use mathlib.Core.Bool.{Bool, true, false, cond, ◌&&◌, true≢false, false≢true}
 use mathlib.Core.List.{List, [], ◌∷◌}
 use native.Mathlib.Omega.{arith}
-use native.Mathlib.Nat.{add-zero, sub-zero, add-sub_cancel_left}
+use native.Mathlib.Nat.{add-zero, zero-add, add-sub_cancel_left}
 use borrow.Author.Count.{below_more}
-use borrow.Author.Tests.{le-leb, lt-leb, leb-false, eq-eqb, ne_eqb}
+use borrow.Author.Tests.{le-leb, lt-leb, leb-false}
 use lib.ListN.{length, get_or, take, drop, length-drop}
-use lib.Dec.{T, leb}
+use lib.Dec.{leb}
+use Rattle.std.specs.List.{list_all, range_with_len}
+use Rattle.std.proofs.lemmas.Bool.Decides.{nat_tests}
 use Rattle.format.specs.Utf8.{Range, ◌‥◌, has, tail, rows, never, due, first_byte, octets, valid_utf8_seq}
 use Rattle.format.proofs.Grammar.{never_any}
 use Rattle.utf8.specs.Scan.{Low, tails, Tails, Scan, Two, Passed, Advanced}
-use Rattle.utf8.proofs.Octets.{unbroken, alike, opens, follows, too_few, valid_end}
+use Rattle.utf8.proofs.Octets.{opens, follows, too_few, valid_end}
 
 -- bytes below 128
 pub passed_none : (m : List ℕ) (i : ℕ) → i ≤ length m → Passed m i i
@@ -22,8 +25,8 @@ pub passed_on : (m : List ℕ) (i j k : ℕ) → Passed m i j → Passed m j k �
 passed_on m i j k x y = record { after = omega arith; fits = y.fits; goes = x.goes ∙ y.goes }
 
 pub passed_byte : (m : List ℕ) (i : ℕ) → i < length m → get_or m i 0 < 128 → Passed m i (i + 1)
-unfolding rows first_byte unbroken
-passed_byte m i h k = record { after = omega arith; fits = omega arith; goes = opens m i (due []) h (alike 0x00 0x80 (get_or m i 0) (omega arith) k rows tt) }
+unfolding rows first_byte
+passed_byte m i h k = record { after = omega arith; fits = omega arith; goes = opens m i (due []) h (grind (arith, nat_tests)) }
 
 pub passed_block : (m : List ℕ) (i n : ℕ) → i + n ≤ length m → ((k : ℕ) → k < n → get_or m (i + k) 0 < 128) → Passed m i (i + n)
 passed_block m i zero h all = rw (add-zero i) (passed_none m i (omega arith))
@@ -84,32 +87,29 @@ range_below low high b h = sym (rw (lt-leb low b h))
 pub range_within : (low high b : ℕ) → low ≤ b → leb b high ≡ has (low ‥ high) b
 range_within low high b h = sym (rw (le-leb low b h))
 
--- the bytes behind a character's second byte: x is what they are to say, k of them were looked at
-module _ (m : List ℕ) (i n k : ℕ) (h : i + n ≤ length m) (inv : octets (drop i m) (due (tails n)) ≡ octets (drop (i + k) m) (due (tails (n - k)))) where
-  tail_next : (t : Bool) → k < n → t ≡ has tail (get_or m (i + k) 0) → octets (drop (i + k) m) (due (tails (n - k))) ≡ t && octets (drop (i + k + 1) m) (due (tails (n - (k + 1))))
-  unfolding tails
-  tail_next t q is =
-      let e : n - k ≡ suc (n - (k + 1)) = omega arith in
-      ap (λ (j : ℕ). octets (drop (i + k) m) (due (tails j))) e ∙ follows m (i + k) tail (tails (n - (k + 1))) t (omega arith) (sym is)
+-- a test more, before what goes on where the others hold
+both_ways : (t u v : Bool) → (t && cond u v false) ≡ cond (t && u) v false
+both_ways true u v = refl
+both_ways false u v = refl
 
-  pub tails_more : (t : Bool) → k < n → t ≡ has tail (get_or m (i + k) 0) → t ≡ true
-      → octets (drop i m) (due (tails n)) ≡ octets (drop (i + (k + 1)) m) (due (tails (n - (k + 1))))
-  tails_more t q is e =
-      let f : i + k + 1 ≡ i + (k + 1) = omega arith in
-      inv ∙ tail_next t q is ∙ rw e (ap (λ (j : ℕ). octets (drop j m) (due (tails (n - (k + 1))))) f)
+-- the n bytes behind a character's second byte, from the a-th of them on
+tails_from : (m : List ℕ) (i n a : ℕ) → i + a + n ≤ length m
+    → octets (drop (i + a) m) (due (tails n)) ≡ cond (list_all (λ k. has tail (get_or m (i + k) 0)) (range_with_len a n)) (valid_utf8_seq (drop (i + (a + n)) m)) false
+unfolding tails
+tails_from m i zero a h = rw (add-zero a) refl
+tails_from m i (suc n) a h =
+    let t = has tail (get_or m (i + a) 0) in
+    let u = list_all (λ k. has tail (get_or m (i + k) 0)) (range_with_len (a + 1) n) in
+    let e : i + a + 1 ≡ i + (a + 1) = omega arith in
+    let f : a + 1 + n ≡ a + suc n = omega arith in
+    follows m (i + a) tail (tails n) t (omega arith) refl
+    ∙ rw (e, ← f) (ap (λ (v : Bool). t && v) (tails_from m i n (a + 1) (omega arith)) ∙ both_ways t u _)
 
-  pub tails_stop : (t : Bool) → k < n → t ≡ has tail (get_or m (i + k) 0) → t ≡ false → Tails m i n false
-  tails_stop t q is e = record { goes = inv ∙ tail_next t q is ∙ rw e refl }
-
-  pub tails_all : k ≤ n → n ≤ k → Tails m i n true
-  unfolding tails
-  tails_all p q =
-      let e : n - k ≡ 0 = omega arith in
-      let f : k ≡ n = omega arith in
-      record { goes = inv ∙ rw e (ap (λ (j : ℕ). valid_utf8_seq (drop (i + j) m)) f) }
-
-pub tails_start : (m : List ℕ) (i n : ℕ) → octets (drop i m) (due (tails n)) ≡ octets (drop (i + 0) m) (due (tails (n - 0)))
-tails_start m i n = rw (add-zero i, sub-zero n)
+pub tails_all : (m : List ℕ) (i n : ℕ) (r : Bool) → i + n ≤ length m
+    → r ≡ list_all (λ k. has tail (get_or m (i + k) 0)) (range_with_len 0 n) → Tails m i n r
+tails_all m i n r h e =
+    let x = tails_from m i n 0 (omega arith) in
+    record { goes = rw e (rw (add-zero i, zero-add n) at x) }
 
 length_tails : (n : ℕ) → length (tails n) ≡ n
 unfolding tails
@@ -118,48 +118,42 @@ length_tails (suc n) = ap suc (length_tails n)
 
 -- a character behind its first byte: its second byte, and n more
 module _ (m : List ℕ) (i : ℕ) (r : Range) (n : ℕ) where
-  pub longer_short : i < length m → length m - i < n + 2 → Scan m (i + 1) (r ∷ tails n) i 0
+  pub longer_short : i < length m → length m - i < n + 2 → Scan m (i + 1) (r ∷ tails n) i None
   longer_short h k =
       let e : length (tails n) ≡ n = length_tails n in
-      record { fits = omega arith; goes = too_few (drop (i + 1) m) (r ∷ tails n) (simp length-drop (omega arith)) }
+      record { fits = tt; goes = too_few (drop (i + 1) m) (r ∷ tails n) (simp length-drop (omega arith)) }
 
   module _ (t : Bool) (h : n + 2 ≤ length m - i) (is : t ≡ has r (get_or m (i + 1) 0)) where
-    pub longer_first : t ≡ false → Scan m (i + 1) (r ∷ tails n) i 0
-    longer_first e = record { fits = omega arith; goes = follows m (i + 1) r (tails n) false (omega arith) (sym is ∙ e) }
+    pub longer_first : t ≡ false → Scan m (i + 1) (r ∷ tails n) i None
+    longer_first e = record { fits = tt; goes = follows m (i + 1) r (tails n) false (omega arith) (sym is ∙ e) }
 
     second : t ≡ true → (u : Bool) → Tails m (i + 2) n u → octets (drop (i + 1) m) (due (r ∷ tails n)) ≡ cond u (valid_utf8_seq (drop (i + 2 + n) m)) false
     second e u x =
         let f : i + 1 + 1 ≡ i + 2 = omega arith in
         follows m (i + 1) r (tails n) true (omega arith) (sym is ∙ e) ∙ rw f x.goes
 
-    pub longer_not : t ≡ true → (u : Bool) → Tails m (i + 2) n u → u ≡ false → Scan m (i + 1) (r ∷ tails n) i 0
-    longer_not e u x f = record { fits = omega arith; goes = second e u x ∙ rw f refl }
+    pub longer_not : t ≡ true → (u : Bool) → Tails m (i + 2) n u → u ≡ false → Scan m (i + 1) (r ∷ tails n) i None
+    longer_not e u x f = record { fits = tt; goes = second e u x ∙ rw f refl }
 
-    pub longer_all : t ≡ true → (u : Bool) → Tails m (i + 2) n u → u ≡ true → Scan m (i + 1) (r ∷ tails n) i (n + 2)
+    pub longer_all : t ≡ true → (u : Bool) → Tails m (i + 2) n u → u ≡ true → Scan m (i + 1) (r ∷ tails n) i (Some (n + 2))
     longer_all e u x f =
         let g : i + 2 + n ≡ i + (n + 2) = omega arith in
-        record { fits = omega arith; goes = second e u x ∙ rw (f, g, ne_eqb (n + 2) 0 (λ q. omega arith)) refl }
+        record { fits = (omega arith, omega arith); goes = second e u x ∙ rw (f, g) refl }
 
--- a character from its first byte on, by what the table says of `low`, with which a row begins or a gap between rows: c is left to
--- `search`, which takes it from the code's tests
-module _ (low : ℕ) where
-  module _ (c : ℕ) (m : List ℕ) (i : ℕ) (h : i < length m) (p : low ≤ get_or m i 0) (q : get_or m i 0 < c) (t : T (unbroken rows low c)) where
-    pub lead : (ds : List Range) (r : ℕ) → Scan m (i + 1) ds i r → first_byte rows low ≡ due ds → Scan m i [] i r
-    lead ds r s e = record { fits = s.fits; goes = opens m i (due ds) h (alike low c (get_or m i 0) p q rows t ∙ e) ∙ s.goes }
+-- a character from its first byte on
+module _ (m : List ℕ) (i : ℕ) (h : i < length m) where
+  pub lead : (ds : List Range) (r : Option ℕ) → Scan m (i + 1) ds i r → first_byte rows (get_or m i 0) ≡ due ds → Scan m i [] i r
+  lead ds r s e = record { fits = s.fits; goes = opens m i (due ds) h e ∙ s.goes }
 
-    pub lead_none : first_byte rows low ≡ never → Scan m i [] i 0
-    lead_none e = record { fits = omega arith; goes = opens m i never h (alike low c (get_or m i 0) p q rows t ∙ e) ∙ never_any (drop (i + 1) m) }
-
-  -- where no bound is known above the byte
-  pub lead_last : (m : List ℕ) (i : ℕ) → i < length m → low ≤ get_or m i 0 → T (unbroken rows low (suc (get_or m i 0))) → first_byte rows low ≡ never → Scan m i [] i 0
-  lead_last m i h p t e = lead_none (suc (get_or m i 0)) m i h p (omega arith) t e
+  pub lead_none : first_byte rows (get_or m i 0) ≡ never → Scan m i [] i None
+  lead_none e = record { fits = tt; goes = opens m i never h e ∙ never_any (drop (i + 1) m) }
 
 -- a character of two bytes
 pub two_not : (m : List ℕ) (i : ℕ) → Two m i false
 two_not m i = record { stands = λ e. absurd (false≢true e) }
 
 pub two_is : (m : List ℕ) (i : ℕ) (t : Bool) → i + 2 ≤ length m → 0xC2 ≤ get_or m i 0 → get_or m i 0 < 0xE0 → t ≡ has tail (get_or m (i + 1) 0) → Two m i t
-unfolding rows first_byte unbroken
+unfolding rows first_byte
 two_is m i t h p q is = record { stands = passed }
   where
     passed : t ≡ true → Passed m i (i + 2)
@@ -169,7 +163,7 @@ two_is m i t h p q is = record { stands = passed }
           after = omega arith;
           fits = h;
           goes =
-              opens m i (due (tail ∷ [])) (omega arith) (alike 0xC2 0xE0 (get_or m i 0) p q rows tt)
+              opens m i (due (tail ∷ [])) (omega arith) (grind (arith, nat_tests))
               ∙ follows m (i + 1) tail [] true (omega arith) (sym is ∙ e)
               ∙ ap (λ (j : ℕ). valid_utf8_seq (drop j m)) f;
         }
@@ -179,11 +173,14 @@ two_more m from i t x y e = passed_on m from i (i + 2) x (y.stands e)
 
 -- the loop of `is_utf8`
 module _ (m : List ℕ) (i : ℕ) (x : Passed m 0 i) where
-  pub char_none : (n : ℕ) → Scan m i [] i n → n ≡ 0 → false ≡ valid_utf8_seq m
-  char_none n s e = sym (x.goes ∙ s.goes ∙ rw (eq-eqb n 0 e) refl)
+  pub char_none : (o : Option ℕ) → Scan m i [] i o → o ≡ None → false ≡ valid_utf8_seq m
+  char_none o s e = sym (x.goes ∙ s.goes ∙ rw e refl)
 
-  pub char_some : (n : ℕ) → Scan m i [] i n → (n ≡ 0 → ⊥) → Passed m 0 (i + n)
-  char_some n s e = record { after = omega arith; fits = s.fits; goes = x.goes ∙ s.goes ∙ rw (ne_eqb n 0 e) refl }
+  pub char_some : (o : Option ℕ) (n : ℕ) → Scan m i [] i o → o ≡ Some n → Passed m 0 (i + n)
+  char_some o n s e =
+      let t = subst (Scan m i [] i) e s in
+      let f : (0 < n) × (i + n ≤ length m) = t.fits in
+      record { after = omega arith; fits = f.1; goes = x.goes ∙ t.goes }
 
   pub all_passed : length m ≤ i → true ≡ valid_utf8_seq m
   all_passed h = sym (x.goes ∙ valid_end m i h)

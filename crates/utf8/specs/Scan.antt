@@ -1,5 +1,5 @@
 -- What the steps of `is_utf8` say to each other. Assumes nothing.
-use Rattle.std.specs.Prelude.{ℕ, zero, suc, ◌+◌, ◌≤◌, ◌<◌, ◌≡◌, Bool, true, false, cond, List, [], ◌∷◌, eqb, length, get_or, drop}
+use Rattle.std.specs.Prelude.{ℕ, zero, suc, ◌+◌, ◌≤◌, ◌<◌, ◌≡◌, Bool, true, false, cond, List, [], ◌∷◌, Option, Some, None, length, get_or, drop}
 use Rattle.format.specs.Utf8.{Range, tail, due, octets, valid_utf8_seq}
 
 -- n bytes of the range UTF8-tail
@@ -11,10 +11,19 @@ tails (suc n) = tail ∷ tails n
 pub record Tails (m : List ℕ) (i n : ℕ) (r : Bool) : Type 0 where
   pub goes : octets (drop i m) (due (tails n)) ≡ cond r (valid_utf8_seq (drop (i + n) m)) false
 
--- with `ds` due at i: a character that began at j ends at j + r, or, where r is 0, there is none
-pub record Scan (m : List ℕ) (i : ℕ) (ds : List Range) (j r : ℕ) : Type 0 where
-  pub fits : j + r ≤ length m
-  pub goes : octets (drop i m) (due ds) ≡ cond (eqb r 0) false (valid_utf8_seq (drop (j + r) m))
+-- what remains to be UTF-8 behind a character that began at j, if there is one
+abbrev pub beyond : List ℕ → ℕ → Option ℕ → Bool
+beyond m j None = false
+beyond m j (Some r) = valid_utf8_seq (drop (j + r) m)
+
+abbrev pub Fits : List ℕ → ℕ → Option ℕ → Type 0
+Fits m j None = Unit {0}
+Fits m j (Some r) = (0 < r) × (j + r ≤ length m)
+
+-- with `ds` due at i: a character that began at j ends at j + r, or there is none
+pub record Scan (m : List ℕ) (i : ℕ) (ds : List Range) (j : ℕ) (r : Option ℕ) : Type 0 where
+  pub fits : Fits m j r
+  pub goes : octets (drop i m) (due ds) ≡ beyond m j r
 
 -- the bytes from i to r are characters
 pub record Passed (m : List ℕ) (i r : ℕ) : Type 0 where

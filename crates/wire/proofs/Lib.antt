@@ -4,3 +4,5 @@ pub mod EndLaws
 pub mod Stood
 pub mod StoreLaws
 pub mod EntryWritten
+pub mod BufferLaws
+pub mod Exits

@@ -13,7 +13,9 @@ use Rattle.format.specs.Places.{part_of}
 use Rattle.steps.proofs.Operations.{too_long}
 use Rattle.steps.proofs.Numbers.{length_part}
 use Rattle.wire.specs.Codes.{span_of}
-use Rattle.wire.specs.declared.Span.TheVariants as span
+use Rattle.std.specs.Prelude.{Result, Ok}
+use Rattle.wire.specs.declared.refusals.Refusal.{Refusal}
+use Rattle.wire.specs.declared.Span.{Span}
 
 -- the guard
 module _ (m : List ℕ) (s : ℕ) where
@@ -33,7 +35,7 @@ module _ (m : List ℕ) (s n : ℕ) where
   unfolding read_at
   bytes_no h = rw (lt-leb (s + n) (length m) h)
 
-  pub bytes_there : s + n ≤ length m → span.At s n (s + n) ≡ span_of (read_at n m s)
+  pub bytes_there : s + n ≤ length m → ◌≡◌ {A = Result Span Refusal} (Ok (record { start = s; len = n; tail = s + n })) (span_of (read_at n m s))
   bytes_there h = rw (bytes_got h, length_part m s n h)
 
   -- it is what the reader answers, of one byte at least

@@ -1,18 +1,18 @@
 -- Laws of `stored`: one store, stores side by side, a store into a part; and the ways out of the functions that write.
 -- Assumes nothing.
-use mir.Syntax.{w16}
-use mir.Val.{Fits}
+use mir.Syntax.{w16, w32}
 use Prim.Native.Nat.{ℕ, suc, ◌+◌, ◌-◌, ◌/◌, ◌%◌, ◌≤◌, ◌<◌}
 use mathlib.Core.Path.{◌≡◌, refl, sym, ap, ◌∙◌}
 use mathlib.Core.List.{List, [], ◌∷◌, ◌++◌, append_assoc, append-nil}
 use native.Mathlib.Omega.{arith}
 use native.Mathlib.Nat.{add-zero, zero-add, add-sub_cancel_left}
-use native.Mathlib.Numerals.{add-one}
-use lib.ListN.{length, get_or, take, drop, set, length-append, length-take, length-drop, take-append-drop, drop_of_length-le}
+use lib.ListN.{length, take, drop, set, length-append, length-take, length-drop, take-append-drop, drop_of_length-le}
 use borrow.Rule.Slice.PartMut.{put_mid}
-use lib.Seq.{set_split, take-suc, take_all, take_at, drop_at, drop-drop, length-take-le, take-length}
+use lib.Seq.{set_split, take_all, take_at, drop_at, drop-drop, length-take-le, take-length}
+use Rattle.std.specs.Int.{to_be_bytes}
 use Rattle.format.specs.Serialize.{write_uint16, write_uint32, write_short_length_seq}
-use Rattle.format.proofs.Serialize.{length_uint16}
+use Rattle.format.specs.Lent.{bytes_at}
+use Rattle.format.proofs.Serialize.{length_uint16, length_uint32}
 use Rattle.steps.proofs.Numbers.{length_part}
 use Rattle.wire.specs.Stored.{stored}
 
@@ -62,19 +62,21 @@ stored_more d s a b t e h =
 stored_both : (d o p : List ℕ) (s t : ℕ) (a b image : List ℕ) → o ≡ stored d s a → p ≡ stored o t b → t ≡ s + length a → s + length a ≤ length d → a ++ b ≡ image → p ≡ stored d s image
 stored_both d o p s t a b image e f g h k = f ∙ ap (λ (l : List ℕ). stored l t b) e ∙ stored_more d s a b t g h ∙ ap (stored d s) k
 
--- the bytes of 16 bits, and of 32 bits as twice 16
+-- the bytes of 16 bits, and those of 16 and of 32 as std has them
 pub two_bytes : (x : ℕ) → x < 65536 → x / 256 ∷ x % 256 ∷ [] ≡ write_uint16 x
 unfolding write_uint16
 two_bytes x h = let e : x / 256 ≡ x / 256 % 256 = omega arith in ap (λ (y : ℕ). y ∷ x % 256 ∷ []) e
 
-two_halves : (x : ℕ) → write_uint16 (x / 65536) ++ write_uint16 (x % 65536) ≡ write_uint32 x
-unfolding write_uint16 write_uint32
-two_halves x =
-    let a : x / 65536 / 256 % 256 ≡ x / 256 / 256 / 256 % 256 = omega arith in
+bytes_of_16 : (x : ℕ) → to_be_bytes w16 x ≡ write_uint16 x
+unfolding write_uint16
+bytes_of_16 x = refl
+
+bytes_of_32 : (x : ℕ) → to_be_bytes w32 x ≡ write_uint32 x
+unfolding write_uint32
+bytes_of_32 x =
+    let a : x / 16777216 % 256 ≡ x / 256 / 256 / 256 % 256 = omega arith in
     let b : x / 65536 % 256 ≡ x / 256 / 256 % 256 = omega arith in
-    let c : x % 65536 / 256 % 256 ≡ x / 256 % 256 = omega arith in
-    let d : x % 65536 % 256 ≡ x % 256 = omega arith in
-    rw (a, b, c, d) refl
+    rw (a, b) refl
 
 -- the bytes of an entry
 pub length_then_bytes : (text : List ℕ) (a n : ℕ) → a + n ≤ length text → write_uint16 n ++ take n (drop a text) ≡ write_short_length_seq (take n (drop a text))
@@ -82,46 +84,25 @@ unfolding write_short_length_seq
 length_then_bytes text a n q = ap (λ (k : ℕ). write_uint16 k ++ take n (drop a text)) (sym (length_part text a n q))
 
 module _ (d o p : List ℕ) (s : ℕ) where
-  pub stored_uint16 : (x : ℕ) → Fits w16 x → s + 2 ≤ length d → o ≡ stored d s (x / 256 ∷ []) → p ≡ stored o (s + 1) (x % 256 ∷ []) → p ≡ stored d s (write_uint16 x)
-  stored_uint16 x fit h e f = stored_both d o p s (s + 1) (x / 256 ∷ []) (x % 256 ∷ []) (write_uint16 x) e f refl (omega arith) (two_bytes x fit.fits)
-
-  pub stored_uint32 : (x : ℕ) → s + 4 ≤ length d → o ≡ stored d s (write_uint16 (x / 65536)) → p ≡ stored o (s + 2) (write_uint16 (x % 65536)) → p ≡ stored d s (write_uint32 x)
-  stored_uint32 x h e f =
-      let l = length_uint16 (x / 65536) in
-      stored_both d o p s (s + 2) (write_uint16 (x / 65536)) (write_uint16 (x % 65536)) (write_uint32 x) e f (omega arith) (omega arith) (two_halves x)
-
   pub stored_entry : (text : List ℕ) (a n : ℕ) → a + n ≤ length text → s + 2 + n ≤ length d → o ≡ stored d s (write_uint16 n) → p ≡ stored o (s + 2) (take n (drop a text))
       → p ≡ stored d s (write_short_length_seq (take n (drop a text)))
   stored_entry text a n q h e f =
       let l = length_uint16 n in
       stored_both d o p s (s + 2) (write_uint16 n) (take n (drop a text)) (write_short_length_seq (take n (drop a text))) e f (omega arith) (omega arith) (length_then_bytes text a n q)
 
--- a copy, byte by byte
-pub copied_none : (d src : List ℕ) → d ≡ take 0 src ++ drop 0 d
-copied_none d src = refl
-
-pub copied_more : (d src o : List ℕ) (i : ℕ) → o ≡ take i src ++ drop i d → i < length src → length d ≡ length src → set o i (get_or src i 0) ≡ take (i + 1) src ++ drop (i + 1) d
-copied_more d src o i e h k =
-    let n : length (take i src) ≡ i = length-take-le i src (omega arith) in
-    let l : i < length o = simp (e, length-append, n, length-drop) (omega arith) in
-    let b : take i o ≡ take i src = ap (take i) e ∙ take_at (take i src) (drop i d) i n in
-    let c : drop (suc i) o ≡ drop (suc i) d = ap (λ (j : ℕ). drop j o) one ∙ sym (drop-drop 1 i o) ∙ ap (λ (x : List ℕ). drop 1 (drop i x)) e ∙ ap (drop 1) (drop_at (take i src) (drop i d) i n) ∙ drop-drop 1 i d ∙ ap (λ (j : ℕ). drop j d) (sym one) in
-    set_split o i (get_or src i 0) l ∙ rw (b, c, add-one i, take-suc src i 0 h, append_assoc (take i src) (get_or src i 0 ∷ []) (drop (suc i) d)) refl
-  where
-    one : suc i ≡ i + 1
-    one = omega arith
-
-pub copied_all : (d src o : List ℕ) (i : ℕ) → o ≡ take i src ++ drop i d → i ≤ length src → length src ≤ i → length d ≡ length src → o ≡ src
-copied_all d src o i e h k l =
-    let n : i ≡ length src = omega arith in
-    let z : length d ≤ i = omega arith in
-    e ∙ rw (drop_of_length-le d z, append-nil) (ap (λ (j : ℕ). take j src) n ∙ take-length src)
-
 -- what was written into a part of the output: from s to s + n, and from s to its end
-pub stored_middle : (d text new : List ℕ) (s a n : ℕ) → a + n ≤ length text → new ≡ take (a + n - a) (drop a text) → put_mid s (s + n - s) d new ≡ stored d s (take n (drop a text))
+stored_part : (d new bytes : List ℕ) (s n : ℕ) → length bytes ≡ n → new ≡ bytes → put_mid s (s + n - s) d new ≡ stored d s bytes
 unfolding stored
-stored_middle d text new s a n h e =
-    rw (e, add-sub_cancel_left s n, add-sub_cancel_left a n, length_part text a n h, drop-drop n s d) refl
+stored_part d new bytes s n l e = rw (e, add-sub_cancel_left s n, l, drop-drop n s d) refl
+
+pub stored_middle : (d text new : List ℕ) (s a n : ℕ) → a + n ≤ length text → new ≡ take (a + n - a) (drop a text) → put_mid s (s + n - s) d new ≡ stored d s (take n (drop a text))
+stored_middle d text new s a n h e = stored_part d new (take n (drop a text)) s n (length_part text a n h) (e ∙ ap (λ (k : ℕ). take k (drop a text)) (add-sub_cancel_left a n))
+
+pub stored_uint16 : (d new : List ℕ) (s x : ℕ) → new ≡ to_be_bytes w16 x → put_mid s (s + 2 - s) d new ≡ stored d s (write_uint16 x)
+stored_uint16 d new s x e = stored_part d new (write_uint16 x) s 2 (length_uint16 x) (e ∙ bytes_of_16 x)
+
+pub stored_uint32 : (d new : List ℕ) (s x : ℕ) → new ≡ to_be_bytes w32 x → put_mid s (s + 4 - s) d new ≡ stored d s (write_uint32 x)
+stored_uint32 d new s x e = stored_part d new (write_uint32 x) s 4 (length_uint32 x) (e ∙ bytes_of_32 x)
 
 pub stored_tail : (d new image : List ℕ) (s : ℕ) → s ≤ length d → new ≡ stored (take (length d - s) (drop s d)) 0 image → put_mid s (length d - s) d new ≡ stored d s image
 unfolding stored
@@ -130,3 +111,7 @@ stored_tail d new image s h e =
     let all : take (length d - s) (drop s d) ≡ drop s d = take_all (length d - s) (drop s d) (omega arith) in
     let none : drop (length d - s) (drop s d) ≡ [] = drop_of_length-le (drop s d) {i = length d - s} (omega arith) in
     rw (e, all, none, append-nil, zero-add, drop-drop (length image) s d) refl
+
+-- an entry of all the bytes that are lent
+pub entry_stored : (d bytes : List ℕ) (at : ℕ) (out : List ℕ) → out ≡ stored d at (write_short_length_seq (bytes_at bytes 0 (length bytes))) → out ≡ stored d at (write_short_length_seq bytes)
+entry_stored d bytes at out e = e ∙ ap (λ (l : List ℕ). stored d at (write_short_length_seq l)) (take-length bytes)

@@ -1,108 +1,150 @@
 // Reading at a place of a message, for the readers that are put together of these. They require a start below 2^32, which
 // refusal 1 answers for, so that no place wraps; `operations` has the same without a `requires`.
-ghost use Rattle.std.specs.Prelude.{◌≡◌, ◌+◌, ◌≤◌, ◌<◌, ◌^◌, length};
-ghost use Rattle.format.specs.Read.{at, addressable};
+ghost use Rattle.std.specs.Prelude.{ℕ, List, ◌≡◌, ◌+◌, ◌≤◌, ◌<◌, ◌^◌, length};
+ghost use Rattle.format.specs.Read.{Reader, accepted, refused, at, addressable};
 ghost use Rattle.format.specs.Serialize.{read, read_at, read_uint8, read_uint16, read_uint32, read_short_length_seq};
 ghost use Rattle.format.specs.Context.{read_text};
+ghost use Rattle.std.proofs.Common.{lit<};
+ghost use Rattle.steps.proofs.Numbers.{uint8_got, uint8_no, uint16_got, uint16_no, uint32_got, uint32_no};
 ghost use Rattle.format.specs.Places.{number8, number16, number32};
+ghost use Rattle.wire.specs.Reasons.{number_of as reason_number};
 ghost use Rattle.wire.specs.Codes.{number_of, span_of, end_of, limit_of, beyond_of, Below};
 
-use super::refusals::PAST_SECTION;
-use super::{End, Number, Refusal, Span, refuse, shortage};
+use super::refusals::{Reason, Refusal};
+use super::{Span, SuccessfulRead};
 
 // Refusal 1: both have to be at most 4,294,967,295.
 pub fn is_addressable(m: &[u8], start: u64) -> bool
     ensures { result ≡ addressable m.now start }
 {
-    if 4294967295 < m.len() {
-        return false;
+    m.len() <= 4294967295 && start <= 4294967295
+}
+
+// A number of 8, 16 or 32 bits, which stands with its high byte first.
+pub trait Uint {
+    const SIZE: u64;
+
+    ghost SIZE: { ℕ };
+
+    // The least number that needs more bytes.
+    ghost limit: { ℕ };
+
+    // The number that stands at a place, and the source's reader of it.
+    ghost here: { List ℕ → ℕ → ℕ };
+
+    ghost reader: { Reader ℕ };
+
+    ghost some: { (0 < SIZE) × (SIZE < 5) };
+
+    ghost got: { (m : List ℕ) (s : ℕ) → s + SIZE ≤ length m → at reader m s ≡ accepted (here m s) (s + SIZE) };
+
+    ghost no: { (m : List ℕ) (s : ℕ) → length m < s + SIZE → at reader m s ≡ refused 2 (s + SIZE) };
+
+    // The number at a place where one is known to stand.
+    fn known(m: &[u8], s: u64) -> u64
+        requires { s + SIZE ≤ length m.now }
+        ensures { (result ≡ here m.now s) × (result < limit) };
+}
+
+impl Uint for u8 {
+    const SIZE: u64 = 1;
+
+    ghost SIZE = { 1 };
+
+    ghost limit = { 256 };
+
+    ghost here = { number8 };
+
+    ghost reader = { read_uint8 };
+
+    ghost some = { (lit< tt, lit< tt) };
+
+    ghost got = { λ m s. uint8_got m s };
+
+    ghost no = { λ m s. uint8_no m s };
+
+    fn known(m: &[u8], s: u64) -> u64 {
+        u64::from(m[s as usize])
     }
-    start <= 4294967295
 }
 
-fn wide(x: u8) -> u64
-    ensures { (result ≡ x) × (result < 256) }
-{
-    x as u64
+impl Uint for u16 {
+    const SIZE: u64 = 2;
+
+    ghost SIZE = { 2 };
+
+    ghost limit = { 65536 };
+
+    ghost here = { number16 };
+
+    ghost reader = { read_uint16 };
+
+    ghost some = { (lit< tt, lit< tt) };
+
+    ghost got = { λ m s. uint16_got m s };
+
+    ghost no = { λ m s. uint16_no m s };
+
+    fn known(m: &[u8], s: u64) -> u64 {
+        let at = s as usize;
+        u64::from(u16::from_be_bytes([m[at], m[at + 1]]))
+    }
 }
 
-// The number of 8, 16 or 32 bits at a place where one is known to stand.
-fn known_u8(m: &[u8], s: u64) -> u64
-    requires { s + 1 ≤ length m.now }
-    ensures { (result ≡ number8 m.now s) × (result < 256) }
-{
-    let i = s as usize;
-    wide(m[i])
+impl Uint for u32 {
+    const SIZE: u64 = 4;
+
+    ghost SIZE = { 4 };
+
+    ghost limit = { 4294967296 };
+
+    ghost here = { number32 };
+
+    ghost reader = { read_uint32 };
+
+    ghost some = { (lit< tt, lit< tt) };
+
+    ghost got = { λ m s. uint32_got m s };
+
+    ghost no = { λ m s. uint32_no m s };
+
+    fn known(m: &[u8], s: u64) -> u64 {
+        let at = s as usize;
+        u64::from(u32::from_be_bytes([m[at], m[at + 1], m[at + 2], m[at + 3]]))
+    }
 }
 
-pub fn known_u16(m: &[u8], s: u64) -> u64
-    requires { s + 2 ≤ length m.now }
-    ensures { (result ≡ number16 m.now s) × (result < 65536) }
-{
-    known_u8(m, s) * 256 + known_u8(m, s + 1)
-}
-
-pub fn known_u32(m: &[u8], s: u64) -> u64
-    requires { s + 4 ≤ length m.now }
-    ensures { (result ≡ number32 m.now s) × (result < 4294967296) }
-{
-    known_u16(m, s) * 65536 + known_u16(m, s + 2)
-}
-
-pub fn read_u8(m: &[u8], s: u64) -> Number
+// ReadUInt16 and ReadUInt32, and a byte likewise.
+pub fn read_uint<N: Uint>(m: &[u8], s: u64) -> Result<SuccessfulRead<u64>, Refusal>
     requires { s < 4294967296 }
-    ensures { (result ≡ number_of (at read_uint8 m.now s)) × Below 256 result }
+    ensures { (result ≡ number_of (at N.reader m.now s)) × Below N.limit result }
 {
-    let tail = s + 1;
+    let tail = s + N::SIZE;
     if tail <= m.len() as u64 {
-        let value = known_u8(m, s);
-        return Number::Is { value, tail };
+        let value = N::known(m, s);
+        return Ok(SuccessfulRead { value, tail });
     }
-    Number::Not(shortage(tail))
-}
-
-pub fn read_u16(m: &[u8], s: u64) -> Number
-    requires { s < 4294967296 }
-    ensures { (result ≡ number_of (at read_uint16 m.now s)) × Below 65536 result }
-{
-    let tail = s + 2;
-    if tail <= m.len() as u64 {
-        let value = known_u16(m, s);
-        return Number::Is { value, tail };
-    }
-    Number::Not(shortage(tail))
-}
-
-pub fn read_u32(m: &[u8], s: u64) -> Number
-    requires { s < 4294967296 }
-    ensures { (result ≡ number_of (at read_uint32 m.now s)) × Below 4294967296 result }
-{
-    let tail = s + 4;
-    if tail <= m.len() as u64 {
-        let value = known_u32(m, s);
-        return Number::Is { value, tail };
-    }
-    Number::Not(shortage(tail))
+    Err(Refusal::shortage(tail))
 }
 
 // n bytes, by document 01's words: they are there when s + n is at most the message's length, n = 0 included.
-pub(crate) fn bytes_at(m: &[u8], s: u64, n: u64) -> Span
+pub fn bytes_at(m: &[u8], s: u64, n: u64) -> Result<Span, Refusal>
     requires { s + n < 2 ^ 64 }
     ensures { result ≡ span_of (read_at n m.now s) }
 {
     let tail = s + n;
     if (m.len() as u64) < tail {
-        return Span::Not(shortage(tail));
+        return Err(Refusal::shortage(tail));
     }
-    Span::At {
+    Ok(Span {
         start: s,
         len: n,
         tail,
-    }
+    })
 }
 
 // n bytes, one at least, at any start.
-pub fn read_some_bytes(m: &[u8], s: u64, n: u64) -> Span
+pub fn read_some_bytes(m: &[u8], s: u64, n: u64) -> Result<Span, Refusal>
     requires { (0 < n) × (n < 65536) × (s < 4294967296) }
     ensures { result ≡ span_of (at (read n) m.now s) }
 {
@@ -110,61 +152,52 @@ pub fn read_some_bytes(m: &[u8], s: u64, n: u64) -> Span
 }
 
 // Up to where bytes may be read: the end, where the message reaches it, or else the message's.
-fn limit(m: &[u8], end: End) -> u64
+fn limit(m: &[u8], end: Option<u64>) -> u64
     ensures { result ≡ limit_of (end_of end) (length m.now) }
 {
     let all = m.len() as u64;
-    let End::At(place) = end else {
-        return all;
-    };
-    if place < all {
-        return place;
-    }
-    all
+    end.map_or(all, |place| place.min(all))
 }
 
 // Why bytes that would end at `tail`, beyond the limit, can't be read: that they run past the end comes before a shortage.
-fn beyond(end: End, tail: u64) -> Refusal
+fn beyond(end: Option<u64>, tail: u64) -> Refusal
     ensures { result ≡ beyond_of (end_of end) tail }
 {
-    let End::At(place) = end else {
-        return shortage(tail);
+    let Some(place) = end else {
+        return Refusal::shortage(tail);
     };
     if place < tail {
-        return refuse(PAST_SECTION);
+        return Reason::PastSection.into();
     }
-    shortage(tail)
+    Refusal::shortage(tail)
 }
 
 // ReadShortLengthSeq, held to an end.
-pub fn read_entry(m: &[u8], s: u64, end: End) -> Span
+pub fn read_entry(m: &[u8], s: u64, end: Option<u64>) -> Result<Span, Refusal>
     requires { s < 4294967296 }
     ensures { result ≡ span_of (at (read_short_length_seq (end_of end)) m.now s) }
 {
     let start = s + 2;
     let to = limit(m, end);
     if to < start {
-        return Span::Not(beyond(end, start));
+        return Err(beyond(end, start));
     }
-    let len = known_u16(m, s);
+    let len = u16::known(m, s);
     let tail = start + len;
     if to < tail {
-        return Span::Not(beyond(end, tail));
+        return Err(beyond(end, tail));
     }
-    Span::At { start, len, tail }
+    Ok(Span { start, len, tail })
 }
 
-// An entry of UTF-8, held to an end, else the refusal with the number.
-pub fn read_text(m: &[u8], s: u64, end: End, number: u8) -> Span
+// An entry of UTF-8, held to an end, else refused for the reason.
+pub fn read_text(m: &[u8], s: u64, end: Option<u64>, reason: Reason) -> Result<Span, Refusal>
     requires { s < 4294967296 }
-    ensures { result ≡ span_of (at (read_text (end_of end) number) m.now s) }
+    ensures { result ≡ span_of (at (read_text (end_of end) (reason_number reason)) m.now s) }
 {
-    let e = read_entry(m, s, end);
-    let Span::At { start, len, tail } = e else {
-        return e;
-    };
-    if utf8::part_is_utf8(m, start, len) {
-        return Span::At { start, len, tail };
+    let entry = read_entry(m, s, end)?;
+    if utf8::part_is_utf8(m, entry.start, entry.len) {
+        return Ok(entry);
     }
-    Span::Not(refuse(number))
+    Err(reason.into())
 }

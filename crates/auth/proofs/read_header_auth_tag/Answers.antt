@@ -1,12 +1,11 @@
 use Rattle.std.proofs.Common.{rules}
-use Rattle.wire.proofs.Answers.{near, small}
-use Rattle.auth.proofs.Laws.{auth_here, auth_guarded}
+use Rattle.wire.proofs.BufferLaws.{read_on, read_not}
 use Rattle.auth.proofs.read_header_auth_tag.Goals as goal
 
-ruleset laws = (near, small, auth_here, auth_guarded, rules)
+ruleset laws = (read_on, read_not, rules)
 
-pub returns-then-is_addressable : goal.returns-then-is_addressable
-returns-then-is_addressable c = search laws
+pub returns-in_err-new : goal.returns-in_err-new
+returns-in_err-new c = search laws
 
 pub returns : goal.returns
 returns c = search laws

@@ -1,12 +1,11 @@
-use Rattle.std.proofs.Common.{rules}
-use Rattle.body_reader.proofs.BodyLaws.{body_1, body_here}
-use Rattle.wire.proofs.Answers.{near, small}
+use Rattle.std.proofs.lemmas.Result.{err_from_is_err_and}
+use Rattle.body_reader.proofs.BodyLaws.{body_on, body_none}
 use Rattle.body_reader.proofs.read_header_body.Goals as goal
 
-ruleset laws = (body_1, body_here, near, small, rules)
-
-pub returns-then-is_addressable : goal.returns-then-is_addressable
-returns-then-is_addressable c = search laws
+pub returns-in_err-buffer : goal.returns-in_err-buffer
+returns-in_err-buffer c =
+    let p = err_from_is_err_and c.from_residual.result c.from_residual.ensures.1 in
+    rw (p.1, p.2) (body_none _ c.args.m c.args.start _ _ c.new.result c.new.ensures _ c.in_err-buffer.was)
 
 pub returns : goal.returns
-returns c = search laws
+returns c = body_on _ c.args.m c.args.start _ _ c.new.result c.new.ensures _ c.in_ok-buffer.was _ _ _ c.body_at.ensures

@@ -1,12 +1,12 @@
 use Rattle.std.proofs.Common.{rules}
-use Rattle.wire.proofs.Answers.{near, small}
-use Rattle.context.proofs.FindLaws.{find_here, find_guarded}
+use Rattle.wire.proofs.Exits.{exits}
+use Rattle.context.proofs.FindLaws.{find_on, find_none}
 use Rattle.context.proofs.find_value.Goals as goal
 
-ruleset laws = (near, small, find_here, find_guarded, rules)
+ruleset laws = (exits, find_on, find_none, rules)
 
-pub returns-then-is_addressable : goal.returns-then-is_addressable
-returns-then-is_addressable c = search laws
+pub returns-in_err-new : goal.returns-in_err-new
+returns-in_err-new c = search laws
 
 pub returns : goal.returns
 returns c = search laws

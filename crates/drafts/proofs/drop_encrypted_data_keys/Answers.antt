@@ -1,12 +1,9 @@
 use Rattle.std.proofs.Common.{rules}
-use Rattle.wire.proofs.Answers.{near, small}
-use Rattle.drafts.proofs.Answers.{mends_1, mends_here}
+use Rattle.wire.proofs.Exits.{exits}
+use Rattle.drafts.proofs.Answers.{mends_error, drop_not}
 use Rattle.drafts.proofs.drop_encrypted_data_keys.Goals as goal
 
-ruleset laws = (mends_1, mends_here, near, small, rules)
+ruleset laws = (exits, mends_error, drop_not, rules)
 
-pub returns-then-is_addressable : goal.returns-then-is_addressable
-returns-then-is_addressable c = search laws
-
-pub returns : goal.returns
-returns c = search laws
+pub returns-in_err-body : goal.returns-in_err-body
+returns-in_err-body c = search laws

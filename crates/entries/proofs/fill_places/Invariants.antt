@@ -1,9 +1,5 @@
-use Prim.Native.Nat.{◌-◌}
 use Rattle.entries.proofs.Tables.{Filled}
 use Rattle.entries.proofs.fill_places.Given as goal
 
 abbrev pub invariant-loop-i : goal.invariant-loop-i
-invariant-loop-i l = Filled l.m l.initial.table l.table l.first l.count l.i l.j l.at
-
-abbrev pub decreases-loop-i : goal.decreases-loop-i
-decreases-loop-i l = l.count - l.i
+invariant-loop-i l = Filled l.m l.initial.table l.table l.first l.count l.i l.at

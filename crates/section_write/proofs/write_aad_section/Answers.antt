@@ -1,12 +1,13 @@
 use Rattle.std.proofs.Common.{rules}
-use Rattle.checks.proofs.Writers.{writes_fails, writes_28, writes_all}
+use Rattle.wire.proofs.Exits.{exits}
+use Rattle.checks.proofs.Writers.{writes_error, writes_fails, writes_28, writes_all}
 use Rattle.section_write.proofs.SectionLaws.{aad_small, aad_ready, aad_length, today_stored}
 use Rattle.section_write.proofs.write_aad_section.Goals as goal
 
-ruleset laws = (writes_fails, writes_28, writes_all, aad_small, aad_ready, aad_length, today_stored, rules)
+ruleset laws = (exits, writes_error, writes_fails, writes_28, writes_all, aad_small, aad_ready, aad_length, today_stored, rules)
 
-pub returns-in-Fails : goal.returns-in-Fails
-returns-in-Fails c = search laws
+pub returns-in_err-check_pairs : goal.returns-in_err-check_pairs
+returns-in_err-check_pairs c = search laws
 
 pub aad_section_size-size-requires : goal.aad_section_size-size-requires
 aad_section_size-size-requires c = search laws

@@ -4,5 +4,8 @@ use Rattle.utf8.proofs.is_two.Goals as goal
 
 ruleset laws = (two_not, two_is, rules)
 
-pub returns : goal.returns
-returns c = search laws
+pub returns-then-matches : goal.returns-then-matches
+returns-then-matches c = search laws
+
+pub returns-else-matches : goal.returns-else-matches
+returns-else-matches c = search laws

@@ -10,8 +10,5 @@ returns-then-m-i c = search laws
 pub returns-then-all_tails : goal.returns-then-all_tails
 returns-then-all_tails c = search laws
 
-pub returns-then-in_range : goal.returns-then-in_range
-returns-then-in_range c = search laws
-
 pub returns : goal.returns
 returns c = search laws

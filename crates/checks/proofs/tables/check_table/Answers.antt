@@ -14,13 +14,13 @@ pub returns-then-table-k-gt65535 : goal.returns-then-table-k-gt65535
 unfolding numbers_checks table_checks
 returns-then-table-k-gt65535 c = search laws
 
-pub returns-then-all_short : goal.returns-then-all_short
+pub returns-then-not-all_short : goal.returns-then-not-all_short
 unfolding numbers_checks table_checks
-returns-then-all_short c = search laws
+returns-then-not-all_short c = search laws
 
-pub returns-then-all_in_text : goal.returns-then-all_in_text
+pub returns-then-not-all_in_text : goal.returns-then-not-all_in_text
 unfolding numbers_checks table_checks
-returns-then-all_in_text c = search laws
+returns-then-not-all_in_text c = search laws
 
 pub returns : goal.returns
 unfolding numbers_checks table_checks

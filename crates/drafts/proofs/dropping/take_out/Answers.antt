@@ -1,8 +1,8 @@
 use Rattle.std.proofs.Common.{rules}
-use Rattle.drafts.proofs.TakenOut.{out_40, out_whole, start_fits, end_fits, count_fits, section_ends, tail_fits}
+use Rattle.drafts.proofs.TakenOut.{out_40, out_whole, end_fits, count_fits}
 use Rattle.drafts.proofs.dropping.take_out.Goals as goal
 
-ruleset laws = (out_40, out_whole, start_fits, end_fits, count_fits, section_ends, tail_fits, rules)
+ruleset laws = (out_40, out_whole, end_fits, count_fits, rules)
 
 pub returns-then-kept-eq0 : goal.returns-then-kept-eq0
 returns-then-kept-eq0 c = search laws

@@ -1,12 +1,14 @@
 use Rattle.std.proofs.Common.{rules}
-use Rattle.ends.proofs.SharedLaws.{one_or_two_none, one_or_two_good, one_or_two_bad, uint8_fits}
+use Rattle.ends.proofs.SharedLaws.{one_or_two_none, one_or_two_good, one_or_two_bad}
 use Rattle.wire.proofs.Answers.{below_is}
+use Rattle.wire.proofs.Exits.{exits}
+use Rattle.wire.proofs.BufferLaws.{places}
 use Rattle.ends.proofs.shared.read_one_or_two.Goals as goal
 
-ruleset laws = (one_or_two_none, one_or_two_good, one_or_two_bad, uint8_fits, below_is, rules)
+ruleset laws = (places, exits, one_or_two_none, one_or_two_good, one_or_two_bad, below_is, rules)
 
-pub returns-in_default : goal.returns-in_default
-returns-in_default c = search laws
+pub returns-in_err-byte : goal.returns-in_err-byte
+returns-in_err-byte c = search laws
 
 pub returns-then-is_one_or_two : goal.returns-then-is_one_or_two
 returns-then-is_one_or_two c = search laws

@@ -1,11 +1,11 @@
 use Rattle.std.proofs.Common.{rules}
-use Rattle.frames.proofs.Places.{stores_start, stores_room, stores_long, stores_next, stores_near, stores_kind, stores_more, stores_end}
+use Rattle.frames.proofs.Places.{stores_start, stores_long, stores_next, stores_near, stores_kind, stores_more, stores_end}
 use Rattle.frames.proofs.filling.fill_frames.Goals as goal
 
-ruleset laws = (stores_start, stores_room, stores_long, stores_next, stores_near, stores_kind, stores_more, stores_end, rules)
+ruleset laws = (stores_start, stores_long, stores_next, stores_near, stores_kind, stores_more, stores_end, rules)
 
-pub known_frame-f-requires : goal.known_frame-f-requires
-known_frame-f-requires c = search laws
+pub known-places-requires : goal.known-places-requires
+known-places-requires c = search laws
 
 pub loop-i-preserved : goal.loop-i-preserved
 loop-i-preserved c = search laws

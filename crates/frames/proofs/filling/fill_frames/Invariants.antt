@@ -1,9 +1,5 @@
-use Prim.Native.Nat.{◌-◌}
 use Rattle.frames.proofs.Places.{Stores}
 use Rattle.frames.proofs.filling.fill_frames.Given as goal
 
 abbrev pub invariant-loop-i : goal.invariant-loop-i
-invariant-loop-i l = Stores l.frame l.m l.initial.table l.table l.first l.count l.i l.j l.at
-
-abbrev pub decreases-loop-i : goal.decreases-loop-i
-decreases-loop-i l = l.count - l.i
+invariant-loop-i l = Stores l.frame l.m l.initial.table l.table l.first l.count l.i l.at

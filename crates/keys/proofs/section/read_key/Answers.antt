@@ -1,24 +1,27 @@
 use Rattle.std.proofs.Common.{rules}
-use Rattle.wire.proofs.Stood.{entry_near, text_near}
+use Rattle.wire.proofs.Exits.{exits}
+use Rattle.wire.proofs.BufferLaws.{span_place}
 use Rattle.keys.proofs.SectionLaws.{key_no_provider, key_no_info, key_no_cipher, key_whole}
 use Rattle.keys.proofs.section.read_key.Goals as goal
 
-ruleset laws = (entry_near, text_near, key_no_provider, key_no_info, key_no_cipher, key_whole, rules)
+ruleset laws = (exits, key_no_provider, key_no_info, key_no_cipher, key_whole, rules)
 
-pub returns-in_default : goal.returns-in_default
-returns-in_default c = search laws
+pub returns-in_err-id : goal.returns-in_err-id
+returns-in_err-id c = search laws
 
-pub read_entry-i-requires : goal.read_entry-i-requires
-read_entry-i-requires c = search laws
+pub returns-in_err-info : goal.returns-in_err-info
+returns-in_err-info c =
+    let info = span_place c.at.ensures _ _ c.read_entry.ensures.answer in
+    search laws
 
-pub returns-in_default-i : goal.returns-in_default-i
-returns-in_default-i c = search laws
-
-pub read_entry-c-requires : goal.read_entry-c-requires
-read_entry-c-requires c = search laws
-
-pub returns-in_default-c : goal.returns-in_default-c
-returns-in_default-c c = search laws
+pub returns-in_err-ciphertext : goal.returns-in_err-ciphertext
+returns-in_err-ciphertext c =
+    let info = span_place c.at.ensures _ _ c.read_entry.ensures.answer in
+    let ciphertext = span_place c.at-2.ensures _ _ c.read_entry-2.ensures.answer in
+    search laws
 
 pub returns : goal.returns
-returns c = search laws
+returns c =
+    let info = span_place c.at.ensures _ _ c.read_entry.ensures.answer in
+    let ciphertext = span_place c.at-2.ensures _ _ c.read_entry-2.ensures.answer in
+    search laws

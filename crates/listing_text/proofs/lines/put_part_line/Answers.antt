@@ -4,11 +4,11 @@ use Rattle.listing_text.proofs.lines.put_part_line.Goals as goal
 
 ruleset laws = (line_word, line_fields, line_end, line_put, rules)
 
-pub put_word-a-requires : goal.put_word-a-requires
-put_word-a-requires c = search laws
+pub put_word-requires : goal.put_word-requires
+put_word-requires c = search laws
 
-pub put_hex_field-b-requires : goal.put_hex_field-b-requires
-put_hex_field-b-requires c = search laws
+pub put_hex_field-requires : goal.put_hex_field-requires
+put_hex_field-requires c = search laws
 
 pub put_line_end-requires : goal.put_line_end-requires
 put_line_end-requires c = search laws

@@ -4,8 +4,8 @@ use Rattle.wire.proofs.reading.read_text.Goals as goal
 
 ruleset laws = (text_none, text_yes, text_not, entry_in, rules)
 
-pub returns-in_default : goal.returns-in_default
-returns-in_default c = search laws
+pub returns-in_err-entry : goal.returns-in_err-entry
+returns-in_err-entry c = search laws
 
 pub part_is_utf8-requires : goal.part_is_utf8-requires
 part_is_utf8-requires c = search laws

@@ -1,3 +1,0 @@
-pub mod BodyCrossing
-pub mod Crossing
-pub mod Copying

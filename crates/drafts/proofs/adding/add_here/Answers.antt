@@ -1,9 +1,0 @@
-use Rattle.std.proofs.Common.{rules}
-use Rattle.drafts.proofs.Found.{found_stands}
-use Rattle.drafts.proofs.Answers.{add_not}
-use Rattle.drafts.proofs.adding.add_here.Goals as goal
-
-ruleset laws = (found_stands, add_not, rules)
-
-pub returns-in_default : goal.returns-in_default
-returns-in_default c = search laws
