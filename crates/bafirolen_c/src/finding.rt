@@ -1,12 +1,14 @@
 // Finding a value, and copying it.
-ghost use Rattle.std.specs.Prelude.{◌≡◌};
+ghost use Rattle.std.specs.Prelude.{◌≡◌, ◌≤◌, length};
 ghost use Rattle.format.specs.Read.{operation};
 ghost use Rattle.format.specs.Context.{find_value};
+ghost use Rattle.format.specs.Lent.{filled};
 ghost use Rattle.crossing.specs.Records.{place_record};
 ghost use Rattle.bafirolen_c.specs.Exports.{Copies, CopiesValue};
 
 use crossing::{BafirolenPlace, BafirolenWritten};
 use wire::refusals::{Reason, Refusal};
+use wire::writing::write;
 
 // Where the value of the key stands, in the context section at the start, read tolerantly.
 #[unsafe(no_mangle)]
@@ -14,6 +16,15 @@ pub extern "C" fn bafirolen_find_value(m: &[u8], start: u64, key: &[u8]) -> Bafi
     ensures { result ≡ place_record (operation (find_value key.now) m.now start) }
 {
     context::find_value(m, start, key).into()
+}
+
+// Not `copy_from_slice`, as in `wire::writing`.
+#[tactic(auto, using(crate::proofs::Filling::filled_whole))]
+fn fill(value: &[u8], out: &mut [u8])
+    requires { length value.now ≤ length out.old }
+    ensures { out.new ≡ filled value.now out.old }
+{
+    write(value, 0, value.len(), out, 0);
 }
 
 // An empty part is an empty value or a refusal, which only the answer of find tells.
@@ -28,7 +39,7 @@ fn copy_value(m: &[u8], start: u64, key: &[u8], out: &mut [u8]) -> Result<usize,
     if out.len() < n {
         return Err(Reason::OutputTooShort.into());
     }
-    out[..n].copy_from_slice(value);
+    fill(value, out);
     Ok(n)
 }
 

@@ -56,7 +56,8 @@ pub fn read_aad_section(
     section_into(ReadableBuffer::new(m, start)?, request.mode, table)
 }
 
-// Where the value of a key stands, in the section at a start, read tolerantly.
+// Where the value of a key stands, in the section at a start, read tolerantly. Inlined, so that what is found doesn't go through memory.
+#[inline(always)]
 pub fn find_value(m: &[u8], start: u64, key: &[u8]) -> Result<Place, Refusal>
     ensures { result ≡ found_of (operation (value_of key.now) m.now start) }
 {

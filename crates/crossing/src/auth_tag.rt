@@ -6,7 +6,7 @@ use super::BafirolenAuth;
 use auth::HeaderAuth;
 use suites::Suite;
 use wire::SuccessfulRead;
-use wire::refusals::Refusal;
+use wire::refusals::{NONE, Refusal};
 
 impl From<Result<SuccessfulRead<HeaderAuth>, Refusal>> for BafirolenAuth {
     ghost from_gives = { λ a r. r ≡ auth_fields a };
@@ -16,7 +16,7 @@ impl From<Result<SuccessfulRead<HeaderAuth>, Refusal>> for BafirolenAuth {
             Ok(SuccessfulRead { value, tail }) => {
                 let HeaderAuth { iv, tag } = value;
                 BafirolenAuth {
-                    number: 0,
+                    number: u64::from(NONE),
                     position: 0,
                     tail,
                     iv,

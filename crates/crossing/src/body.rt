@@ -6,7 +6,7 @@ use super::BafirolenBody;
 use body_reader::HeaderBody;
 use fields::BodyNumbers;
 use wire::SuccessfulRead;
-use wire::refusals::Refusal;
+use wire::refusals::{NONE, Refusal};
 
 const NO_NUMBERS: BodyNumbers = BodyNumbers {
     version: 0,
@@ -24,7 +24,7 @@ impl From<Result<SuccessfulRead<HeaderBody>, Refusal>> for BafirolenBody {
     fn from(answer: Result<SuccessfulRead<HeaderBody>, Refusal>) -> BafirolenBody {
         match answer {
             Ok(SuccessfulRead { value: body, tail }) => BafirolenBody {
-                number: 0,
+                number: u64::from(NONE),
                 position: 0,
                 numbers: body.numbers,
                 messageIdStart: body.messageIdStart,

@@ -4,7 +4,7 @@ ghost use Rattle.crossing.specs.Records.{found_fields};
 
 use super::BafirolenPlace;
 use context::Place;
-use wire::refusals::Refusal;
+use wire::refusals::{NONE, Refusal};
 
 impl From<Result<Place, Refusal>> for BafirolenPlace {
     ghost from_gives = { λ a r. r ≡ found_fields a };
@@ -12,7 +12,7 @@ impl From<Result<Place, Refusal>> for BafirolenPlace {
     fn from(answer: Result<Place, Refusal>) -> BafirolenPlace {
         match answer {
             Ok(Place { start, len }) => BafirolenPlace {
-                number: 0,
+                number: u64::from(NONE),
                 position: 0,
                 start,
                 len,

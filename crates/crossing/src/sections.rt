@@ -4,7 +4,7 @@ ghost use Rattle.crossing.specs.Records.{section_fields};
 
 use super::BafirolenSection;
 use wire::SuccessfulRead;
-use wire::refusals::Refusal;
+use wire::refusals::{NONE, Refusal};
 
 impl From<Result<SuccessfulRead<u64>, Refusal>> for BafirolenSection {
     ghost from_gives = { λ a r. r ≡ section_fields a };
@@ -12,7 +12,7 @@ impl From<Result<SuccessfulRead<u64>, Refusal>> for BafirolenSection {
     fn from(answer: Result<SuccessfulRead<u64>, Refusal>) -> BafirolenSection {
         match answer {
             Ok(SuccessfulRead { value: count, tail }) => BafirolenSection {
-                number: 0,
+                number: u64::from(NONE),
                 position: 0,
                 count,
                 tail,

@@ -3,7 +3,7 @@ ghost use Rattle.std.specs.Prelude.{◌≡◌};
 ghost use Rattle.crossing.specs.Records.{write_fields};
 
 use super::BafirolenWritten;
-use wire::refusals::Refusal;
+use wire::refusals::{NONE, Refusal};
 
 impl From<Result<usize, Refusal>> for BafirolenWritten {
     ghost from_gives = { λ a r. r ≡ write_fields a };
@@ -11,7 +11,7 @@ impl From<Result<usize, Refusal>> for BafirolenWritten {
     fn from(answer: Result<usize, Refusal>) -> BafirolenWritten {
         match answer {
             Ok(length) => BafirolenWritten {
-                number: 0,
+                number: u64::from(NONE),
                 position: 0,
                 length: length as u64,
             },

@@ -1,3 +1,4 @@
 pub mod Halving
 pub mod Grown
 pub mod Sorted
+pub mod Copying

@@ -39,10 +39,12 @@ pub fn insert(index: &mut [u16], p: usize, n: usize, x: u16)
     index[p] = x;
 }
 
-// Copies an index into a larger one.
+// Copies an index into a larger one: one by one, as `wire::writing` copies bytes.
 pub fn copy(index: &[u16], larger: &mut [u16])
     requires { length index.now ≤ length larger.old }
     ensures { Copied index.now larger.new }
 {
-    larger[..index.len()].copy_from_slice(index);
+    for i in 0..index.len() {
+        larger[i] = index[i];
+    }
 }

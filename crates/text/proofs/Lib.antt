@@ -4,3 +4,4 @@ pub mod Going
 pub mod Loops
 pub mod LineLaws
 pub mod Sizes
+pub mod Hex

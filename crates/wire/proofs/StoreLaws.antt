@@ -1,6 +1,7 @@
 -- Laws of `stored`: one store, stores side by side, a store into a part; and the ways out of the functions that write.
 -- Assumes nothing.
-use mir.Syntax.{w16, w32}
+use mir.Syntax.{w16}
+use mir.Val.{Fits}
 use Prim.Native.Nat.{ℕ, suc, ◌+◌, ◌-◌, ◌/◌, ◌%◌, ◌≤◌, ◌<◌}
 use mathlib.Core.Path.{◌≡◌, refl, sym, ap, ◌∙◌}
 use mathlib.Core.List.{List, [], ◌∷◌, ◌++◌, append_assoc, append-nil}
@@ -9,10 +10,9 @@ use native.Mathlib.Nat.{add-zero, zero-add, add-sub_cancel_left}
 use lib.ListN.{length, take, drop, set, length-append, length-take, length-drop, take-append-drop, drop_of_length-le}
 use borrow.Rule.Slice.PartMut.{put_mid}
 use lib.Seq.{set_split, take_all, take_at, drop_at, drop-drop, length-take-le, take-length}
-use Rattle.std.specs.Int.{to_be_bytes}
 use Rattle.format.specs.Serialize.{write_uint16, write_uint32, write_short_length_seq}
 use Rattle.format.specs.Lent.{bytes_at}
-use Rattle.format.proofs.Serialize.{length_uint16, length_uint32}
+use Rattle.format.proofs.Serialize.{length_uint16}
 use Rattle.steps.proofs.Numbers.{length_part}
 use Rattle.wire.specs.Stored.{stored}
 
@@ -62,21 +62,19 @@ stored_more d s a b t e h =
 stored_both : (d o p : List ℕ) (s t : ℕ) (a b image : List ℕ) → o ≡ stored d s a → p ≡ stored o t b → t ≡ s + length a → s + length a ≤ length d → a ++ b ≡ image → p ≡ stored d s image
 stored_both d o p s t a b image e f g h k = f ∙ ap (λ (l : List ℕ). stored l t b) e ∙ stored_more d s a b t g h ∙ ap (stored d s) k
 
--- the bytes of 16 bits, and those of 16 and of 32 as std has them
+-- the bytes of 16 bits, and of 32 bits as twice 16
 pub two_bytes : (x : ℕ) → x < 65536 → x / 256 ∷ x % 256 ∷ [] ≡ write_uint16 x
 unfolding write_uint16
 two_bytes x h = let e : x / 256 ≡ x / 256 % 256 = omega arith in ap (λ (y : ℕ). y ∷ x % 256 ∷ []) e
 
-bytes_of_16 : (x : ℕ) → to_be_bytes w16 x ≡ write_uint16 x
-unfolding write_uint16
-bytes_of_16 x = refl
-
-bytes_of_32 : (x : ℕ) → to_be_bytes w32 x ≡ write_uint32 x
-unfolding write_uint32
-bytes_of_32 x =
-    let a : x / 16777216 % 256 ≡ x / 256 / 256 / 256 % 256 = omega arith in
+two_halves : (x : ℕ) → write_uint16 (x / 65536) ++ write_uint16 (x % 65536) ≡ write_uint32 x
+unfolding write_uint16 write_uint32
+two_halves x =
+    let a : x / 65536 / 256 % 256 ≡ x / 256 / 256 / 256 % 256 = omega arith in
     let b : x / 65536 % 256 ≡ x / 256 / 256 % 256 = omega arith in
-    rw (a, b) refl
+    let c : x % 65536 / 256 % 256 ≡ x / 256 % 256 = omega arith in
+    let d : x % 65536 % 256 ≡ x % 256 = omega arith in
+    rw (a, b, c, d) refl
 
 -- the bytes of an entry
 pub length_then_bytes : (text : List ℕ) (a n : ℕ) → a + n ≤ length text → write_uint16 n ++ take n (drop a text) ≡ write_short_length_seq (take n (drop a text))
@@ -84,6 +82,14 @@ unfolding write_short_length_seq
 length_then_bytes text a n q = ap (λ (k : ℕ). write_uint16 k ++ take n (drop a text)) (sym (length_part text a n q))
 
 module _ (d o p : List ℕ) (s : ℕ) where
+  pub stored_uint16 : (x : ℕ) → Fits w16 x → s + 2 ≤ length d → o ≡ stored d s (x / 256 ∷ []) → p ≡ stored o (s + 1) (x % 256 ∷ []) → p ≡ stored d s (write_uint16 x)
+  stored_uint16 x fit h e f = stored_both d o p s (s + 1) (x / 256 ∷ []) (x % 256 ∷ []) (write_uint16 x) e f refl (omega arith) (two_bytes x fit.fits)
+
+  pub stored_uint32 : (x : ℕ) → s + 4 ≤ length d → o ≡ stored d s (write_uint16 (x / 65536)) → p ≡ stored o (s + 2) (write_uint16 (x % 65536)) → p ≡ stored d s (write_uint32 x)
+  stored_uint32 x h e f =
+      let l = length_uint16 (x / 65536) in
+      stored_both d o p s (s + 2) (write_uint16 (x / 65536)) (write_uint16 (x % 65536)) (write_uint32 x) e f (omega arith) (omega arith) (two_halves x)
+
   pub stored_entry : (text : List ℕ) (a n : ℕ) → a + n ≤ length text → s + 2 + n ≤ length d → o ≡ stored d s (write_uint16 n) → p ≡ stored o (s + 2) (take n (drop a text))
       → p ≡ stored d s (write_short_length_seq (take n (drop a text)))
   stored_entry text a n q h e f =
@@ -97,12 +103,6 @@ stored_part d new bytes s n l e = rw (e, add-sub_cancel_left s n, l, drop-drop n
 
 pub stored_middle : (d text new : List ℕ) (s a n : ℕ) → a + n ≤ length text → new ≡ take (a + n - a) (drop a text) → put_mid s (s + n - s) d new ≡ stored d s (take n (drop a text))
 stored_middle d text new s a n h e = stored_part d new (take n (drop a text)) s n (length_part text a n h) (e ∙ ap (λ (k : ℕ). take k (drop a text)) (add-sub_cancel_left a n))
-
-pub stored_uint16 : (d new : List ℕ) (s x : ℕ) → new ≡ to_be_bytes w16 x → put_mid s (s + 2 - s) d new ≡ stored d s (write_uint16 x)
-stored_uint16 d new s x e = stored_part d new (write_uint16 x) s 2 (length_uint16 x) (e ∙ bytes_of_16 x)
-
-pub stored_uint32 : (d new : List ℕ) (s x : ℕ) → new ≡ to_be_bytes w32 x → put_mid s (s + 4 - s) d new ≡ stored d s (write_uint32 x)
-stored_uint32 d new s x e = stored_part d new (write_uint32 x) s 4 (length_uint32 x) (e ∙ bytes_of_32 x)
 
 pub stored_tail : (d new image : List ℕ) (s : ℕ) → s ≤ length d → new ≡ stored (take (length d - s) (drop s d)) 0 image → put_mid s (length d - s) d new ≡ stored d s image
 unfolding stored

@@ -75,6 +75,6 @@ impl<'a> ReadableBuffer<'a> {
         ensures answer { result ≡ span_of (from (read_text (end_of end) (reason_number reason)) self.entry) }
         ensures within { IfOk result (λ r. r.tail ≤ length self.entry.bytes.now) }
     {
-        reading::read_text(self.bytes, self.start, end, reason)
+        reading::read_text(self.bytes, self.start, end, reason.number())
     }
 }

@@ -7,10 +7,9 @@ ghost use Rattle.format.specs.Context.{read_text};
 ghost use Rattle.std.proofs.Common.{lit<};
 ghost use Rattle.steps.proofs.Numbers.{uint8_got, uint8_no, uint16_got, uint16_no, uint32_got, uint32_no};
 ghost use Rattle.format.specs.Places.{number8, number16, number32};
-ghost use Rattle.wire.specs.Reasons.{number_of as reason_number};
 ghost use Rattle.wire.specs.Codes.{number_of, span_of, end_of, limit_of, beyond_of, Below};
 
-use super::refusals::{Reason, Refusal};
+use super::refusals::{Reason, Refusal, refuse};
 use super::{Span, SuccessfulRead};
 
 // Refusal 1: both have to be at most 4,294,967,295.
@@ -190,14 +189,14 @@ pub fn read_entry(m: &[u8], s: u64, end: Option<u64>) -> Result<Span, Refusal>
     Ok(Span { start, len, tail })
 }
 
-// An entry of UTF-8, held to an end, else refused for the reason.
-pub fn read_text(m: &[u8], s: u64, end: Option<u64>, reason: Reason) -> Result<Span, Refusal>
+// An entry of UTF-8, held to an end, else the refusal with the number.
+pub fn read_text(m: &[u8], s: u64, end: Option<u64>, number: u8) -> Result<Span, Refusal>
     requires { s < 4294967296 }
-    ensures { result ≡ span_of (at (read_text (end_of end) (reason_number reason)) m.now s) }
+    ensures { result ≡ span_of (at (read_text (end_of end) number) m.now s) }
 {
     let entry = read_entry(m, s, end)?;
     if utf8::part_is_utf8(m, entry.start, entry.len) {
         return Ok(entry);
     }
-    Err(reason.into())
+    Err(refuse(number))
 }

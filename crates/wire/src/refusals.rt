@@ -3,6 +3,9 @@ ghost use Rattle.std.specs.Prelude.{◌≡◌};
 ghost use Rattle.wire.specs.Reasons.{number_of};
 ghost use Rattle.wire.specs.Codes.{because};
 
+// Accepted: no refusal. It is what a host gets, and no reason.
+pub const NONE: u8 = 0;
+
 #[derive(Clone, Copy, Debug, PartialEq, Eq)]
 pub enum Reason {
     // The message's length or the start is above 4,294,967,295.
@@ -135,13 +138,23 @@ impl Reason {
     }
 }
 
-// Why a message, or what is to be written, is refused. The number is a reason's, and no `Reason` stands here: a contract says `because k p`
+// Why a message, or what is to be written, is refused. A number, and no `Reason`, stands here: a contract says `because k p`
 // of whatever number k a definition answers, `promises` speaks of it, and C gets it. The position is the place wanted for a shortage, and
 // otherwise 0.
 #[derive(Clone, Copy, Debug, PartialEq, Eq)]
 pub struct Refusal {
     pub number: u8,
     pub position: u64,
+}
+
+// A refusal whose position is 0.
+pub fn refuse(number: u8) -> Refusal
+    ensures { result ≡ because number 0 }
+{
+    Refusal {
+        number,
+        position: 0,
+    }
 }
 
 impl Refusal {
@@ -160,9 +173,6 @@ impl From<Reason> for Refusal {
     ghost from_gives = { λ r q. q ≡ because (number_of r) 0 };
 
     fn from(reason: Reason) -> Refusal {
-        Refusal {
-            number: reason.number(),
-            position: 0,
-        }
+        refuse(reason.number())
     }
 }

@@ -19,16 +19,27 @@ pub fn write_uint16(out: &mut [u8], at: usize, x: u16)
     requires { at + 2 ≤ length out.old }
     ensures { out.new ≡ stored out.old at (write_uint16 x) }
 {
-    out[at..at + 2].copy_from_slice(&x.to_be_bytes());
+    write_uint8(out, at, (x / 256) as u8);
+    write_uint8(out, at + 1, (x % 256) as u8);
 }
 
-// The source has one function a width, and `to_be_bytes` belongs to no trait: one over a width would need a trait for it.
 // WriteUint32.
 pub fn write_uint32(out: &mut [u8], at: usize, x: u32)
     requires { at + 4 ≤ length out.old }
     ensures { out.new ≡ stored out.old at (write_uint32 x) }
 {
-    out[at..at + 4].copy_from_slice(&x.to_be_bytes());
+    write_uint16(out, at, (x / 65536) as u16);
+    write_uint16(out, at + 2, (x % 65536) as u16);
+}
+
+// Byte by byte, and not `copy_from_slice`: the compiler makes `memmove` of that, a function that the archives don't ask a host for.
+fn copy(src: &[u8], dst: &mut [u8])
+    requires { length dst.old ≡ length src.now }
+    ensures { dst.new ≡ src.now }
+{
+    for i in 0..src.len() {
+        dst[i] = src[i];
+    }
 }
 
 // Write: the bytes as they are, from the lent text; by start and length, as `EntryWritten` speaks of them.
@@ -38,7 +49,7 @@ pub fn write(text: &[u8], start: usize, len: usize, out: &mut [u8], at: usize)
 {
     let end = start + len;
     let to = at + len;
-    out[at..to].copy_from_slice(&text[start..end]);
+    copy(&text[start..end], &mut out[at..to]);
 }
 
 // WriteShortLengthSeq: the length, then the bytes. What that leaves, byte by byte, is specs/EntryWritten; docs/ENTRY-WRITER.md sets the
